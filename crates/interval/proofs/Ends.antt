@@ -1,0 +1,133 @@
+-- Whatever lies in at least q of the spans has a lower end at or below it, and a closed top at or above it unless
+-- q tops are open, that lie in at least q of them too. So the search need try no other times.
+use Prim.Native.Nat.{ℕ, _+_, _≤_, _<_, max, min}
+use mathlib.Core.Path.{_≡_, refl, sym, ap, subst, _∙_}
+use mathlib.Core.Bool.{true}
+use mathlib.Core.List.{List, [], _∷_, _++_}
+use mathlib.Core.Logic.{_⊎_, inl, inr, ⊎-elim}
+use native.Mathlib.Omega.{arith}
+use native.Mathlib.Nat.{le-refl, le-trans}
+use lib.ListN.{length, take, getD}
+use Rattle.std.specs.declared.option.Option.{Option}
+use Rattle.std.specs.declared.option.Option.the-variants.{Some, None}
+use Rattle.std.specs.Options.{valueOr}
+use Rattle.std.specs.shelf.Lists.{All}
+use Rattle.std.proofs.shelf.Elements.{all-weaker, all-push}
+use Rattle.std.proofs.shelf.Tests.{cases-lt}
+use Rattle.interval.specs.declared.interval.Interval.{Interval}
+use Rattle.interval.specs.declared.top.Top.{Top}
+use Rattle.interval.specs.declared.top.Top.the-variants.{Closed, Open}
+use Rattle.interval.specs.Tops.{AtMost, is-open, closed-time}
+use Rattle.interval.specs.Spans.{Span, span, holds}
+use Rattle.interval.specs.Meetings.{spans, holders, open-tops, Quorate}
+use Rattle.interval.specs.Ends.{LeastPoint, GreatestPoint}
+use Rattle.interval.proofs.Counts.{counts-no-fewer, spans-more}
+use Rattle.interval.proofs.Nearest.{anchor, anchor-low, anchored, anchor-end, roof, roof-high, roofed, roof-end}
+use Rattle.interval.proofs.Numbers.{min-either, max-either}
+use Rattle.interval.proofs.Spans.{holds-decides}
+
+none-some : (t : ℕ) → None ≡ Some t → ⊥
+none-some t e = let z : _≡_ {A = ℕ} 0 1 = cc in omega arith
+
+-- a top that no time passes is open
+open-above : (t : Top) → ((l : ℕ) → AtMost l t) → is-open t ≡ true
+open-above (Closed t) all = absurd (omega (arith, all (t + 1)))
+open-above Open all = refl
+
+module _ (ss : List Span) (q : ℕ) where
+  -- below every quorate point lies a quorate lower end
+  lower-quorate : (x : ℕ) → Quorate ss q x → Quorate ss q (anchor x ss)
+  lower-quorate x enough =
+      le-trans enough
+      (counts-no-fewer (λ s. holds s x) (λ s. holds s (anchor x ss)) ss (anchored x (anchor x ss) ss (le-refl _) (anchor-low x ss)))
+
+  -- what the search among the lower ends keeps, once it has seen some of the spans
+  abbrev pub LeastOf : List Span → Option ℕ → Type 0
+  LeastOf seen (Some b) = Quorate ss q b × All (λ s. Quorate ss q (s .lower) → b ≤ s .lower) seen
+  LeastOf seen None = All (λ s. Quorate ss q (s .lower) → ⊥) seen
+
+  pub least-end : 0 < q → (r : Option ℕ) → LeastOf ss r → LeastPoint ss q r
+  least-end some (Some b) (enough, least) = (
+    enough,
+    λ x quorate.
+        le-trans
+        (anchor-end x (λ l. Quorate ss q l → b ≤ l) ss (omega arith) least (lower-quorate x quorate))
+        (anchor-low x ss),
+  )
+  least-end some None none =
+      λ x.
+      ⊎-elim (λ few. few)
+      (λ quorate. absurd (anchor-end x (λ l. Quorate ss q l → ⊥) ss (omega arith) none (lower-quorate x quorate)))
+      (cases-lt (holders ss x) q)
+
+  -- a closed top that lies in at least q of the spans is no more than b
+  abbrev pub TopBy : ℕ → Top → Type 0
+  TopBy b top = (t : ℕ) → closed-time top ≡ Some t → Quorate ss q t → t ≤ b
+
+  -- a top that lies in fewer than q of the spans, or is open, bounds nothing
+  pub not-quorate : (b : ℕ) (top : Top) (t : ℕ) → closed-time top ≡ Some t → holders ss t < q → TopBy b top
+  not-quorate b top t closed few u e enough = let same : u ≡ t = cc in absurd (omega (arith, ap (holders ss) same))
+
+  pub not-closed : (b : ℕ) (top : Top) → closed-time top ≡ None → TopBy b top
+  not-closed b top open′ u e enough = absurd (none-some u (sym open′ ∙ e))
+
+  -- what the search among the closed tops keeps, once it has seen some of the spans
+  pub record GreatestOf (floor : ℕ) (seen : List Span) (b : ℕ) : Type 0 where
+    pub above : floor ≤ b
+    pub quorate : Quorate ss q floor → Quorate ss q b
+    pub greatest : All (λ s. TopBy b (s .top)) seen
+
+  -- above every quorate point lies a quorate closed top, unless q tops are open
+  top-quorate : (x b : ℕ) → open-tops ss < q → Quorate ss q x → (t : Top) → roof x ss ≡ t → AtMost x t → TopBy b t → x ≤ b
+  top-quorate x b few enough (Closed t) is below bound =
+      let tops = roofed x (Closed t) ss (λ l le. subst (AtMost l) (sym is) le) in
+      let held = all-weaker _ _ (λ s top h. holds-decides s t .1 (le-trans (holds-decides s x .0 h .0) below, top h t (le-refl t))) ss tops in
+      le-trans below (bound t refl (le-trans enough (counts-no-fewer (λ s. holds s x) (λ s. holds s t) ss held)))
+  top-quorate x b few enough Open is below bound =
+      let tops = roofed x Open ss (λ l le. subst (AtMost l) (sym is) le) in
+      let opens : All (λ s. holds s x ≡ true → is-open (s .top) ≡ true) ss = all-weaker _ _ (λ s top h. open-above (s .top) (λ l. top h l tt)) ss tops in
+      absurd (omega (arith, counts-no-fewer (λ s. holds s x) (λ s. is-open (s .top)) ss opens))
+
+  pub greatest-end : (floor b : ℕ) → GreatestOf floor ss b → GreatestPoint ss q floor b
+  greatest-end floor b kept = record {
+    above = kept .above;
+    quorate = kept .quorate;
+    greatest = λ few x enough. top-quorate x b few enough (roof x ss) refl (roof-high x ss) (roof-end x (TopBy b) ss (not-closed b Open refl) (kept .greatest));
+  }
+
+-- one turn of each search, where x is the interval at i
+module _ (is : List Interval) (q i : ℕ) (x : Interval) (within : i < length is) (read : x ≡ getD is i x) where
+  pub least-keeps : (r : Option ℕ) → holders (spans is) (x .lower) < q → LeastOf (spans is) q (spans (take i is)) r → LeastOf (spans is) q (spans (take (i + 1) is)) r
+  least-keeps (Some b) few (enough, least) =
+      rw (spans-more is i x within read) (enough, all-push _ _ (span x) least (λ quorate. absurd (omega arith)))
+  least-keeps None few none = rw (spans-more is i x within read) (all-push _ _ (span x) none (λ quorate. omega arith))
+
+  pub least-takes : (r : Option ℕ) → Quorate (spans is) q (x .lower) → LeastOf (spans is) q (spans (take i is)) r → LeastOf (spans is) q (spans (take (i + 1) is)) (Some (min (valueOr r (x .lower)) (x .lower)))
+  least-takes (Some b) enough (quorate, least) =
+      rw (spans-more is i x within read) (
+        min-either (Quorate (spans is) q) b (x .lower) quorate enough,
+        all-push _ _ (span x) (all-weaker _ _ (λ s least quorate. omega (arith, least quorate)) _ least) (λ _. omega arith),
+      )
+  least-takes None enough none =
+      rw (spans-more is i x within read) (
+        min-either (Quorate (spans is) q) (x .lower) (x .lower) enough enough,
+        all-push _ _ (span x) (all-weaker _ _ (λ s none quorate. absurd (none quorate)) _ none) (λ _. omega arith),
+      )
+
+  pub greatest-keeps : (floor b : ℕ) → TopBy (spans is) q b (x .top) → GreatestOf (spans is) q floor (spans (take i is)) b → GreatestOf (spans is) q floor (spans (take (i + 1) is)) b
+  greatest-keeps floor b bound kept = record {
+    above = kept .above;
+    quorate = kept .quorate;
+    greatest = rw (spans-more is i x within read) (all-push _ _ (span x) (kept .greatest) bound);
+  }
+
+  pub greatest-takes : (floor b t : ℕ) → closed-time (x .top) ≡ Some t → Quorate (spans is) q t → GreatestOf (spans is) q floor (spans (take i is)) b → GreatestOf (spans is) q floor (spans (take (i + 1) is)) (max b t)
+  greatest-takes floor b t closed enough kept = record {
+    above = omega (arith, kept .above);
+    quorate = λ quorate. max-either (Quorate (spans is) q) b t (kept .quorate quorate) (λ _. enough);
+    greatest =
+        rw (spans-more is i x within read)
+        (all-push _ _ (span x)
+        (all-weaker _ _ (λ s bound u e quorate. omega (arith, bound u e quorate)) _ (kept .greatest))
+        (λ u e quorate. let same : u ≡ t = cc in omega arith));
+  }

@@ -1,0 +1,8 @@
+pub mod Allowances
+mod Numbers
+mod Counts
+pub mod Spans
+mod Nearest
+mod Ends
+pub mod Meetings
+mod Examples

@@ -1,0 +1,41 @@
+use Prim.Native.Nat.{ℕ, _≤_, _<_, _+_, min}
+use mathlib.Core.Path.{_≡_, sym, ap, subst, _∙_}
+use native.Mathlib.Omega.{arith}
+use lib.ListN.{take}
+use Rattle.std.proofs.shelf.Lists.{take-all}
+use Rattle.std.specs.declared.option.Option.the-variants.{Some}
+use Rattle.std.specs.Options.{valueOr}
+use Rattle.interval.specs.Meetings.{spans, holders}
+use Rattle.interval.proofs.Ends.{LeastOf, least-keeps, least-takes, least-end}
+use Rattle.interval.proofs.meeting.least_end.Needs as need
+use Rattle.interval.proofs.meeting.least_end.Needs.{then-holders-quorum, else-holders-quorum}
+
+pub loop-interval-again : need.loop-interval-again
+loop-interval-again c =
+    let is = c .args .intervals .now in
+    let q = c .args .quorum in
+    let i = c .loop-interval .interval-index in
+    let r = c .loop-interval .least in
+    let x = c .interval-item .result in
+    let within = c .loop-interval-test .taken in
+    let read = c .interval-item .is in
+    let kept = LeastOf (spans is) q (spans (take (i + 1) is)) in
+    let counted : c .holders .result ≡ holders (spans is) (x .lower) = c .holders .ensures ∙ ap (holders (spans is)) (c .lower-end .ensures) in
+    elim (c .if-holders-quorum .came) [
+      | then-holders-quorum w ↦
+          let e : c .if-holders-quorum .least ≡ Some (min (valueOr r (x .lower)) (x .lower)) =
+          w .least-is ∙ ap Some (w .lesser .ensures ∙ ap (λ n. min (valueOr r n) n) (c .lower-end .ensures)) in
+          let enough : q ≤ holders (spans is) (x .lower) = omega (arith, w .if-holders-quorum .taken) in
+          subst kept (sym e) (least-takes is q i x within read r enough (c .loop-interval .inv))
+      | else-holders-quorum w ↦
+          let few : holders (spans is) (x .lower) < q = omega (arith, w .if-holders-quorum .left) in
+          subst kept (sym (w .least-is)) (least-keeps is q i x within read r few (c .loop-interval .inv))
+    ]
+
+pub returns : need.returns
+returns c =
+    let is = c .args .intervals .now in
+    let q = c .args .quorum in
+    let r = c .loop-interval .least in
+    least-end (spans is) q (c .pre) r
+    (subst (λ js. LeastOf (spans is) q (spans js) r) (take-all _ is (c .loop-interval-test .left)) (c .loop-interval .inv))

@@ -1,0 +1,7 @@
+use lib.ListN.{take}
+use Rattle.interval.specs.Meetings.{spans}
+use Rattle.interval.proofs.Ends.{LeastOf}
+use Rattle.interval.proofs.meeting.least_end.Given as given
+
+abbrev pub Inv-loop-interval : given.InvT-loop-interval
+Inv-loop-interval l = LeastOf (spans (l .intervals)) (l .quorum) (spans (take (l .interval-index) (l .intervals))) (l .least)

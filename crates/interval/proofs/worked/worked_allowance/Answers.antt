@@ -1,0 +1,7 @@
+use mathlib.Core.Path.{refl}
+use Rattle.interval.specs.Allowances.{allowance}
+use Rattle.interval.proofs.worked.worked_allowance.Needs as need
+
+pub returns : need.returns
+unfolding allowance
+returns c = record { defined = refl; answers = c .allowance .ensures .answers }

@@ -1,0 +1,9 @@
+pub mod Tops
+pub mod Spans
+pub mod Told
+pub mod Faults
+pub mod Allowances
+pub mod Shared
+pub mod Meetings
+pub mod Ends
+pub mod Worked

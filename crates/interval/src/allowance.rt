@@ -1,0 +1,23 @@
+// The allowance of a time: by how much a time that a clock states may be wrong at the clock's tolerance.
+ghost use mathlib.Core.Path.{_≡_};
+ghost use Rattle.interval.specs.Allowances.{allowed, AllowanceLaws};
+use crate::fault::RuleFault;
+
+// The greatest tolerance, in parts per million.
+pub const MAX_TOLERANCE: u32 = 100_000;
+
+const MILLION: u128 = 1_000_000;
+
+// x × tolerance / 1,000,000, rounded up; a tolerance out of its range is refused.
+pub fn allowance(x: u64, tolerance: u32) -> Result<u64, RuleFault>
+    ensures answers { λ r. ⌜ r ≡ allowed x tolerance ⌝ }
+    ensures laws { λ _. ⌜ AllowanceLaws ⌝ }
+{
+    if tolerance > MAX_TOLERANCE {
+        return Err(RuleFault::OutOfRule {
+            place: tolerance as u64,
+        });
+    }
+    let parts = x as u128 * tolerance as u128;
+    Ok(((parts + (MILLION - 1)) / MILLION) as u64)
+}

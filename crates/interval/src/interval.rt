@@ -1,0 +1,16 @@
+// An interval of time. Its type rules out a closed top below the lower end; its functions are in the module below.
+ghost use mathlib.Core.Path.{_≡_};
+ghost use mathlib.Core.Bool.{true};
+ghost use Rattle.interval.specs.Tops.{at-most};
+use crate::top::Top;
+use crate::top::TopDebug;
+use crate::top::TopPartialEq;
+
+pub mod methods;
+
+#[derive(Clone, Copy, PartialEq, Eq, Debug)]
+pub struct Interval {
+    lower: u64,
+    top: Top,
+    ghost ordered: { at-most lower top ≡ true },
+}

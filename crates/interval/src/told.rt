@@ -1,0 +1,14 @@
+// The numbers that a refusal tells, in their order; its functions are in the module below.
+ghost use Prim.Native.Nat.{_≤_};
+
+pub mod methods;
+
+// The most numbers that any refusal tells.
+pub const MOST_TOLD: usize = 3;
+
+#[derive(Clone, Copy, PartialEq, Eq, Debug)]
+pub struct Told {
+    numbers: [u64; MOST_TOLD],
+    count: usize,
+    ghost few: { count ≤ 3 },
+}
