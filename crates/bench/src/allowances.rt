@@ -2,9 +2,9 @@
 use crate::answer::AnswerDisplay;
 use crate::answer::Answered;
 use crate::answer::ResultAnswered;
-use crate::answer::RuleFaultAnswered;
 use crate::answer::TimeAnswered;
 use interval::allowance::allowance;
+use interval::fault::RuleRefusal;
 use std::io;
 
 pub(crate) fn run(rt: &LibcRuntime) -> io::Result<()> {

@@ -2,12 +2,10 @@
 ghost use Rattle.bench.specs.Answers.{Refuses};
 ghost use Rattle.bench.specs.declared.answer.Answer.{Answer};
 ghost use Rattle.bench.specs.declared.answer.Answer.the-variants.{Nothing, Span, Time};
-ghost use Rattle.interval.specs.Faults.{meeting-number, meeting-told, rule-number, rule-told};
 ghost use Rattle.std.specs.Options.{Cases as BySome};
 ghost use Rattle.std.specs.Results.{Cases};
 ghost use mathlib.Core.Path.{_≡_};
-use interval::fault::MeetingFault;
-use interval::fault::RuleFault;
+use interval::fault::Refusal;
 use interval::interval::Interval;
 use interval::told::Told;
 use interval::top::Top;
@@ -46,40 +44,22 @@ pub impl Answered for u64 as TimeAnswered {
     }
 }
 
-pub impl Answered for RuleFault as RuleFaultAnswered {
-    ghost shown = { λ fault r. Refuses r (rule-number fault) (rule-told fault) };
-
-    fn answer(self) -> Answer {
-        Answer::Refused {
-            number: self.number(),
-            told: self.told(),
-        }
-    }
-}
-
-pub impl Answered for MeetingFault as MeetingFaultAnswered {
-    ghost shown = { λ fault r. Refuses r (meeting-number fault) (meeting-told fault) };
-
-    fn answer(self) -> Answer {
-        Answer::Refused {
-            number: self.number(),
-            told: self.told(),
-        }
-    }
-}
-
-// A result is shown as its value or as its refusal.
-pub impl<T: Answered, E: Answered> Answered for Result<T, E> as ResultAnswered {
-    ghost shown = { λ result r. Cases result (λ value. T·Answered .shown value r) (λ fault. E·Answered .shown fault r) };
+// A result is shown as its value, or as the number of its refusal and the numbers told.
+pub impl<T: Answered, E: Refusal + Drop> Answered for Result<T, E> as ResultAnswered {
+    ghost shown = { λ result r. Cases result (λ value. T·Answered .shown value r) (λ fault. Refuses r (E·Refusal .numbered fault) (E·Refusal .tells fault)) };
 
     fn answer(self) -> Answer {
         match self {
             Ok(value) => value.answer(),
-            Err(fault) => fault.answer(),
+            Err(fault) => Answer::Refused {
+                number: fault.number(),
+                told: fault.told(),
+            },
         }
     }
 }
 
+// What two intervals share may be nothing.
 pub impl<T: Answered> Answered for Option<T> as OptionAnswered {
     ghost shown = { λ option r. BySome option (r ≡ Nothing) (λ value. T·Answered .shown value r) };
 

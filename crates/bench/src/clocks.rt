@@ -2,11 +2,12 @@
 use crate::answer::AnswerDisplay;
 use crate::answer::Answered;
 use crate::answer::IntervalAnswered;
-use crate::answer::MeetingFaultAnswered;
 use crate::answer::OptionAnswered;
 use crate::answer::ResultAnswered;
-use crate::answer::RuleFaultAnswered;
+use interval::fault::MeetingRefusal;
+use interval::fault::Refusal;
 use interval::fault::RuleFault;
+use interval::fault::RuleRefusal;
 use interval::interval::Interval;
 use interval::meeting::meeting;
 use interval::top::Top;
@@ -16,8 +17,8 @@ pub(crate) fn run(rt: &LibcRuntime) -> io::Result<()> {
     match stated() {
         Ok(clocks) => report(rt, &clocks),
         Err(fault) => {
-            let refused = fault.answer();
-            println!(rt, "clocks: {refused}")
+            let number = fault.number();
+            println!(rt, "clocks: refusal {number}")
         }
     }
 }

@@ -2,10 +2,10 @@
 use crate::answer::AnswerDisplay;
 use crate::answer::Answered;
 use crate::answer::IntervalAnswered;
-use crate::answer::MeetingFaultAnswered;
 use crate::answer::ResultAnswered;
-use crate::answer::RuleFaultAnswered;
 use crate::answer::TimeAnswered;
+use interval::fault::MeetingRefusal;
+use interval::fault::RuleRefusal;
 use interval::worked::worked_allowance;
 use interval::worked::worked_meeting;
 use std::io;

@@ -2,18 +2,19 @@
 -- q tops are open, that lie in at least q of them too. So the search need try no other times.
 use Prim.Native.Nat.{ℕ, _+_, _≤_, _<_, max, min}
 use mathlib.Core.Path.{_≡_, refl, sym, ap, subst, _∙_}
-use mathlib.Core.Bool.{true}
+use mathlib.Core.Bool.{true, false}
 use mathlib.Core.List.{List, [], _∷_, _++_}
 use mathlib.Core.Logic.{_⊎_, inl, inr, ⊎-elim}
 use native.Mathlib.Omega.{arith}
 use native.Mathlib.Nat.{le-refl, le-trans}
+use lib.Dec.{leb}
 use lib.ListN.{length, take, getD}
 use Rattle.std.specs.declared.option.Option.{Option}
 use Rattle.std.specs.declared.option.Option.the-variants.{Some, None}
 use Rattle.std.specs.Options.{valueOr}
 use Rattle.std.specs.shelf.Lists.{All}
 use Rattle.std.proofs.shelf.Elements.{all-weaker, all-push}
-use Rattle.std.proofs.shelf.Tests.{cases-lt}
+use Rattle.std.proofs.shelf.Tests.{cases-lt, leb-false, leb-true}
 use Rattle.interval.specs.declared.interval.Interval.{Interval}
 use Rattle.interval.specs.declared.top.Top.{Top}
 use Rattle.interval.specs.declared.top.Top.the-variants.{Closed, Open}
@@ -65,8 +66,8 @@ module _ (ss : List Span) (q : ℕ) where
   TopBy b top = (t : ℕ) → closed-time top ≡ Some t → Quorate ss q t → t ≤ b
 
   -- a top that lies in fewer than q of the spans, or is open, bounds nothing
-  pub not-quorate : (b : ℕ) (top : Top) (t : ℕ) → closed-time top ≡ Some t → holders ss t < q → TopBy b top
-  not-quorate b top t closed few u e enough = let same : u ≡ t = cc in absurd (omega (arith, ap (holders ss) same))
+  pub not-quorate : (b : ℕ) (top : Top) (t : ℕ) → closed-time top ≡ Some t → false ≡ leb q (holders ss t) → TopBy b top
+  not-quorate b top t closed fails u e enough = let same : u ≡ t = cc in absurd (omega (arith, ap (holders ss) same, leb-false q (holders ss t) (sym fails)))
 
   pub not-closed : (b : ℕ) (top : Top) → closed-time top ≡ None → TopBy b top
   not-closed b top open′ u e enough = absurd (none-some u (sym open′ ∙ e))
@@ -97,20 +98,29 @@ module _ (ss : List Span) (q : ℕ) where
 
 -- one turn of each search, where x is the interval at i
 module _ (is : List Interval) (q i : ℕ) (x : Interval) (within : i < length is) (read : x ≡ getD is i x) where
-  pub least-keeps : (r : Option ℕ) → holders (spans is) (x .lower) < q → LeastOf (spans is) q (spans (take i is)) r → LeastOf (spans is) q (spans (take (i + 1) is)) r
-  least-keeps (Some b) few (enough, least) =
-      rw (spans-more is i x within read) (enough, all-push _ _ (span x) least (λ quorate. absurd (omega arith)))
-  least-keeps None few none = rw (spans-more is i x within read) (all-push _ _ (span x) none (λ quorate. omega arith))
+  pub least-keeps : (r : Option ℕ) → false ≡ leb q (holders (spans is) (x .lower)) → LeastOf (spans is) q (spans (take i is)) r → LeastOf (spans is) q (spans (take (i + 1) is)) r
+  least-keeps r fails kept = rw (spans-more is i x within read) (keeps r kept)
+    where
+      few : holders (spans is) (x .lower) < q
+      few = leb-false q (holders (spans is) (x .lower)) (sym fails)
 
-  pub least-takes : (r : Option ℕ) → Quorate (spans is) q (x .lower) → LeastOf (spans is) q (spans (take i is)) r → LeastOf (spans is) q (spans (take (i + 1) is)) (Some (min (valueOr r (x .lower)) (x .lower)))
-  least-takes (Some b) enough (quorate, least) =
-      rw (spans-more is i x within read) (
-        min-either (Quorate (spans is) q) b (x .lower) quorate enough,
+      keeps : (r : Option ℕ) → LeastOf (spans is) q (spans (take i is)) r → LeastOf (spans is) q (spans (take i is) ++ span x ∷ []) r
+      keeps (Some b) (enough, least) = (enough, all-push _ _ (span x) least (λ quorate. absurd (omega (arith, few))))
+      keeps None none = all-push _ _ (span x) none (λ quorate. omega (arith, few))
+
+  pub least-takes : (r : Option ℕ) → true ≡ leb q (holders (spans is) (x .lower)) → LeastOf (spans is) q (spans (take i is)) r → LeastOf (spans is) q (spans (take (i + 1) is)) (Some (min (valueOr r (x .lower)) (x .lower)))
+  least-takes r passes kept = rw (spans-more is i x within read) (takes r kept)
+    where
+      here : Quorate (spans is) q (x .lower)
+      here = leb-true q (holders (spans is) (x .lower)) (sym passes)
+
+      takes : (r : Option ℕ) → LeastOf (spans is) q (spans (take i is)) r → LeastOf (spans is) q (spans (take i is) ++ span x ∷ []) (Some (min (valueOr r (x .lower)) (x .lower)))
+      takes (Some b) (enough, least) = (
+        min-either (Quorate (spans is) q) b (x .lower) enough here,
         all-push _ _ (span x) (all-weaker _ _ (λ s least quorate. omega (arith, least quorate)) _ least) (λ _. omega arith),
       )
-  least-takes None enough none =
-      rw (spans-more is i x within read) (
-        min-either (Quorate (spans is) q) (x .lower) (x .lower) enough enough,
+      takes None none = (
+        min-either (Quorate (spans is) q) (x .lower) (x .lower) here here,
         all-push _ _ (span x) (all-weaker _ _ (λ s none quorate. absurd (none quorate)) _ none) (λ _. omega arith),
       )
 
@@ -121,10 +131,10 @@ module _ (is : List Interval) (q i : ℕ) (x : Interval) (within : i < length is
     greatest = rw (spans-more is i x within read) (all-push _ _ (span x) (kept .greatest) bound);
   }
 
-  pub greatest-takes : (floor b t : ℕ) → closed-time (x .top) ≡ Some t → Quorate (spans is) q t → GreatestOf (spans is) q floor (spans (take i is)) b → GreatestOf (spans is) q floor (spans (take (i + 1) is)) (max b t)
-  greatest-takes floor b t closed enough kept = record {
+  pub greatest-takes : (floor b t : ℕ) → closed-time (x .top) ≡ Some t → true ≡ leb q (holders (spans is) t) → GreatestOf (spans is) q floor (spans (take i is)) b → GreatestOf (spans is) q floor (spans (take (i + 1) is)) (max b t)
+  greatest-takes floor b t closed passes kept = record {
     above = omega (arith, kept .above);
-    quorate = λ quorate. max-either (Quorate (spans is) q) b t (kept .quorate quorate) (λ _. enough);
+    quorate = λ quorate. max-either (Quorate (spans is) q) b t (kept .quorate quorate) (λ _. leb-true q (holders (spans is) t) (sym passes));
     greatest =
         rw (spans-more is i x within read)
         (all-push _ _ (span x)

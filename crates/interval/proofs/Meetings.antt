@@ -20,7 +20,7 @@ use Rattle.interval.specs.declared.fault.MeetingFault.{MeetingFault}
 use Rattle.interval.specs.declared.fault.MeetingFault.the-variants.{Empty, OutOfRule}
 use Rattle.interval.specs.Tops.{AtMost, is-open}
 use Rattle.interval.specs.Spans.{Span, ends, span, Holds, holds, InOrder, answered}
-use Rattle.interval.specs.Meetings.{holders, open-tops, Quorate, Meets, MeetingLaws, MeetingAnswer, in-rule}
+use Rattle.interval.specs.Meetings.{spans, holders, open-tops, Quorate, Meets, MeetingLaws, MeetingAnswer, in-rule}
 use Rattle.interval.specs.Ends.{LeastPoint, GreatestPoint}
 use Rattle.interval.proofs.Counts.{counts-no-fewer}
 use Rattle.interval.proofs.Spans.{holds-decides, at-most-before, in-order}
@@ -112,8 +112,8 @@ meeting-laws = record {
 }
 
 -- where a span is the meeting and number and quorum are in rule, that span is the answer
-pub answers-meeting : (ss : List Span) (q : ℕ) (m : Span) (r : Result Interval MeetingFault) → InOrder m → in-rule (length ss) q ≡ true → Meets ss q m → MeetingAnswer ss q r → answered r ≡ Ok m
-answers-meeting ss q m (Ok i) ordered rule meets (_, found) =
-    ap Ok (meeting-laws .one ss q (span i) m (in-order i) ordered found meets)
-answers-meeting ss q m (Err Empty) ordered rule meets (_, none) = absurd (omega (arith, none (m .lower), lower-end ss q m ordered meets))
-answers-meeting ss q m (Err (OutOfRule quorum)) ordered rule meets (broken, _) = absurd (false≢true (sym broken ∙ rule))
+pub answers-meeting : (is : List Interval) (q : ℕ) (m : Span) (r : Result Interval MeetingFault) → InOrder m → in-rule (length is) q ≡ true → Meets (spans is) q m → MeetingAnswer is q r → answered r ≡ Ok m
+answers-meeting is q m (Ok i) ordered rule meets (_, found) = ap Ok (meeting-laws .one (spans is) q (span i) m (in-order i) ordered found meets)
+answers-meeting is q m (Err Empty) ordered rule meets (_, none) =
+    absurd (omega (arith, none (m .lower), lower-end (spans is) q m ordered meets))
+answers-meeting is q m (Err (OutOfRule quorum)) ordered rule meets (broken, _) = absurd (false≢true (sym broken ∙ rule))

@@ -1,6 +1,6 @@
 -- The allowance of a time at a tolerance, and what every layer above may use of it.
 -- The definition is shut: a proof elsewhere rests on the laws below and not on how the allowance is rounded.
-use Prim.Native.Nat.{ℕ, _+_, _*_, _/_, _≤_}
+use Prim.Native.Nat.{ℕ, _+_, _-_, _*_, _/_, _≤_}
 use mathlib.Core.Bool.{cond}
 use lib.Dec.{leb}
 use Rattle.std.specs.declared.result.Result.{Result}
@@ -16,8 +16,11 @@ abbrev pub greatest-tolerance : ℕ
 greatest-tolerance = 100000
 
 -- x × p / 1,000,000, rounded up
+abbrev pub rounded-up : ℕ → ℕ → ℕ
+rounded-up x p = (x * p + (million - 1)) / million
+
 unfoldable pub allowance : ℕ → ℕ → ℕ
-allowance x p = (x * p + 999999) / million
+allowance x p = rounded-up x p
 
 -- the allowance, or the refusal of a tolerance out of its range
 abbrev pub allowed : ℕ → ℕ → Result ℕ RuleFault

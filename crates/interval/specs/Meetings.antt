@@ -49,12 +49,12 @@ pub record MeetingLaws : Type 0 where
 abbrev pub most-spans : ℕ
 most-spans = 8
 
--- 1 to 8 spans, and a quorum from 1 to their number
+-- n is 1 to 8, and the quorum q is 1 to n
 abbrev pub in-rule : ℕ → ℕ → Bool
 in-rule n q = leb 1 q && leb q n && leb n most-spans
 
--- what a meeting answers: it meets, or no point lies in q of the spans, or their number or q is out of rule
-abbrev pub MeetingAnswer : List Span → ℕ → Result Interval MeetingFault → Type 0
-MeetingAnswer ss q (Ok m) = (in-rule (length ss) q ≡ true) × Meets ss q (span m)
-MeetingAnswer ss q (Err Empty) = (in-rule (length ss) q ≡ true) × ((x : ℕ) → holders ss x < q)
-MeetingAnswer ss q (Err (OutOfRule quorum)) = (in-rule (length ss) q ≡ false) × (quorum ≡ q)
+-- what a meeting answers: it meets, or no time lies in q of the intervals, or their number or q is out of rule
+abbrev pub MeetingAnswer : List Interval → ℕ → Result Interval MeetingFault → Type 0
+MeetingAnswer is q (Ok m) = (in-rule (length is) q ≡ true) × Meets (spans is) q (span m)
+MeetingAnswer is q (Err Empty) = (in-rule (length is) q ≡ true) × ((x : ℕ) → holders (spans is) x < q)
+MeetingAnswer is q (Err (OutOfRule quorum)) = (in-rule (length is) q ≡ false) × (quorum ≡ q)

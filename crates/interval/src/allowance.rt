@@ -1,6 +1,7 @@
 // The allowance of a time: by how much a time that a clock states may be wrong at the clock's tolerance.
+ghost use Prim.Native.Nat.{_≤_};
+ghost use Rattle.interval.specs.Allowances.{AllowanceLaws, allowed, greatest-tolerance, rounded-up};
 ghost use mathlib.Core.Path.{_≡_};
-ghost use Rattle.interval.specs.Allowances.{allowed, AllowanceLaws};
 use crate::fault::RuleFault;
 
 // The greatest tolerance, in parts per million.
@@ -8,7 +9,7 @@ pub const MAX_TOLERANCE: u32 = 100_000;
 
 const MILLION: u128 = 1_000_000;
 
-// x × tolerance / 1,000,000, rounded up; a tolerance out of its range is refused.
+// The allowance of the time `x`; a tolerance out of its range is refused.
 pub fn allowance(x: u64, tolerance: u32) -> Result<u64, RuleFault>
     ensures answers { λ r. ⌜ r ≡ allowed x tolerance ⌝ }
     ensures laws { λ _. ⌜ AllowanceLaws ⌝ }
@@ -18,6 +19,14 @@ pub fn allowance(x: u64, tolerance: u32) -> Result<u64, RuleFault>
             place: tolerance as u64,
         });
     }
+    Ok(rounded_up(x, tolerance))
+}
+
+// x × tolerance / 1,000,000, rounded up.
+fn rounded_up(x: u64, tolerance: u32) -> u64
+    requires { ⌜ tolerance ≤ greatest-tolerance ⌝ }
+    ensures { λ r. ⌜ r ≡ rounded-up x tolerance ⌝ }
+{
     let parts = x as u128 * tolerance as u128;
-    Ok(((parts + (MILLION - 1)) / MILLION) as u64)
+    ((parts + (MILLION - 1)) / MILLION) as u64
 }

@@ -1,4 +1,4 @@
-// An interval of time. Its type rules out a closed top below the lower end; its functions are in the module below.
+// An interval of time. Its type rules out a closed top below the lower end; its functions are in the modules below.
 ghost use mathlib.Core.Path.{_≡_};
 ghost use mathlib.Core.Bool.{true};
 ghost use Rattle.interval.specs.Tops.{at-most};
@@ -6,6 +6,7 @@ use crate::top::Top;
 use crate::top::TopDebug;
 use crate::top::TopPartialEq;
 
+pub mod ends;
 pub mod methods;
 
 #[derive(Clone, Copy, PartialEq, Eq, Debug)]

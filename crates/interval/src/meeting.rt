@@ -1,9 +1,10 @@
 // The meeting of intervals at a quorum, found by trying the ends of the intervals themselves.
 ghost use mathlib.Core.Path.{_≡_};
+ghost use lib.Dec.{leb};
 ghost use Prim.Native.Nat.{_<_, min};
 ghost use Rattle.std.specs.Options.{valueOr};
 ghost use Rattle.interval.specs.Ends.{LeastPoint, GreatestPoint};
-ghost use Rattle.interval.specs.Meetings.{spans, holders, open-tops, MeetingAnswer, MeetingLaws};
+ghost use Rattle.interval.specs.Meetings.{spans, holders, open-tops, in-rule, MeetingAnswer, MeetingLaws};
 use crate::fault::MeetingFault;
 use crate::interval::Interval;
 use crate::top::Top;
@@ -13,12 +14,11 @@ pub const MOST_INTERVALS: usize = 8;
 
 // The smallest interval that holds every time lying in at least `quorum` of the intervals.
 pub fn meeting(intervals: &[Interval], quorum: u32) -> Result<Interval, MeetingFault>
-    ensures answers { λ r. ⌜ MeetingAnswer (spans (now (intervals .entry))) quorum r ⌝ }
+    ensures answers { λ r. ⌜ MeetingAnswer (now (intervals .entry)) quorum r ⌝ }
     ensures laws { λ _. ⌜ MeetingLaws ⌝ }
 {
     let enough = quorum as usize;
-    let count = intervals.len();
-    if enough == 0 || enough > count || count > MOST_INTERVALS {
+    if !in_rule(intervals.len(), enough) {
         return Err(MeetingFault::OutOfRule { quorum });
     }
     let Some(lower) = least_end(intervals, enough) else {
@@ -29,6 +29,13 @@ pub fn meeting(intervals: &[Interval], quorum: u32) -> Result<Interval, MeetingF
     }
     let top = greatest_end(intervals, enough, lower);
     Ok(Interval::ordered(lower, Top::Closed(top)))
+}
+
+// Whether a meeting may be asked for of so many intervals at this quorum.
+fn in_rule(count: usize, quorum: usize) -> bool
+    ensures { λ r. ⌜ r ≡ in-rule count quorum ⌝ }
+{
+    1 <= quorum && quorum <= count && count <= MOST_INTERVALS
 }
 
 // How many of the intervals hold `x`.
@@ -42,6 +49,13 @@ fn holders(intervals: &[Interval], x: u64) -> usize
         }
     }
     count
+}
+
+// Whether at least `quorum` of the intervals hold `x`.
+fn quorate(intervals: &[Interval], x: u64, quorum: usize) -> bool
+    ensures { λ r. ⌜ r ≡ leb quorum (holders (spans (now (intervals .entry))) x) ⌝ }
+{
+    holders(intervals, x) >= quorum
 }
 
 // How many of the intervals have an open top.
@@ -65,7 +79,7 @@ fn least_end(intervals: &[Interval], quorum: usize) -> Option<u64>
     let mut least = None;
     for interval in intervals {
         let end = interval.lower();
-        if holders(intervals, end) >= quorum {
+        if quorate(intervals, end, quorum) {
             least = Some(lesser(least, end));
         }
     }
@@ -86,7 +100,7 @@ fn greatest_end(intervals: &[Interval], quorum: usize, floor: u64) -> u64
     let mut greatest = floor;
     for interval in intervals {
         if let Some(end) = interval.top().closed_time() {
-            if holders(intervals, end) >= quorum {
+            if quorate(intervals, end, quorum) {
                 greatest = greatest.max(end);
             }
         }

@@ -1,4 +1,4 @@
-// What an interval answers: its making, its two ends, whether it holds a time, and what it shares with another.
+// The making of an interval, whether it holds a time, and what it shares with another.
 ghost use mathlib.Core.Bool.{true};
 ghost use mathlib.Core.Path.{_≡_};
 ghost use Rattle.std.specs.Options.{mapped};
@@ -28,18 +28,6 @@ impl Interval {
         ensures { λ r. ⌜ span r ≡ ends lower top ⌝ }
     {
         Interval { lower, top }
-    }
-
-    pub fn lower(&self) -> u64
-        ensures { λ r. ⌜ r ≡ span (now (self .entry)) .lower ⌝ }
-    {
-        self.lower
-    }
-
-    pub fn top(&self) -> Top
-        ensures { λ r. ⌜ r ≡ span (now (self .entry)) .top ⌝ }
-    {
-        self.top
     }
 
     // Whether the time `x` lies in the interval, both ends included.

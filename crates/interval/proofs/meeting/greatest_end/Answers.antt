@@ -1,15 +1,14 @@
-use Prim.Native.Nat.{ℕ, _≤_, _<_, _+_, max}
+use Prim.Native.Nat.{ℕ, _+_, max}
 use mathlib.Core.Path.{_≡_, sym, ap, subst, _∙_}
-use native.Mathlib.Omega.{arith}
 use native.Mathlib.Nat.{le-refl}
 use lib.ListN.{take}
 use Rattle.std.proofs.shelf.Lists.{take-all}
 use Rattle.std.specs.declared.option.Option.the-variants.{Some}
 use Rattle.interval.specs.Tops.{closed-time}
-use Rattle.interval.specs.Meetings.{spans, holders}
+use Rattle.interval.specs.Meetings.{spans}
 use Rattle.interval.proofs.Ends.{GreatestOf, greatest-keeps, greatest-takes, greatest-end, not-quorate, not-closed}
 use Rattle.interval.proofs.meeting.greatest_end.Needs as need
-use Rattle.interval.proofs.meeting.greatest_end.Needs.{in-Some·then-holders-quorum, in-Some·else-holders-quorum, in-rest}
+use Rattle.interval.proofs.meeting.greatest_end.Needs.{in-Some·then-quorate, in-Some·else-quorate, in-rest}
 
 pub loop-interval-holds : need.loop-interval-holds
 loop-interval-holds c = record { above = le-refl _; quorate = λ enough. enough; greatest = tt }
@@ -26,13 +25,11 @@ loop-interval-again c =
     let kept = GreatestOf (spans is) q (c .args .floor) (spans (take (i + 1) is)) in
     let closed : c .closed-time .result ≡ closed-time (x .top) = c .closed-time .ensures ∙ ap closed-time (c .top .ensures) in
     elim (c .match-closed-time .came) [
-      | in-Some·then-holders-quorum w ↦
+      | in-Some·then-quorate w ↦
           let e : c .match-closed-time .greatest ≡ max b (w .in-Some .end) = w .greatest-is ∙ w .max-greatest .ensures in
-          let enough : q ≤ holders (spans is) (w .in-Some .end) = omega (arith, w .if-holders-quorum .taken, w .holders .ensures) in
-          subst kept (sym e) (greatest-takes is q i x within read _ b (w .in-Some .end) (sym closed ∙ w .in-Some .is) enough (c .loop-interval .inv))
-      | in-Some·else-holders-quorum w ↦
-          let few : holders (spans is) (w .in-Some .end) < q = omega (arith, w .if-holders-quorum .left, w .holders .ensures) in
-          let bound = not-quorate (spans is) q b (x .top) (w .in-Some .end) (sym closed ∙ w .in-Some .is) few in
+          subst kept (sym e) (greatest-takes is q i x within read _ b (w .in-Some .end) (sym closed ∙ w .in-Some .is) (w .if-quorate .ensures tt) (c .loop-interval .inv))
+      | in-Some·else-quorate w ↦
+          let bound = not-quorate (spans is) q b (x .top) (w .in-Some .end) (sym closed ∙ w .in-Some .is) (w .if-quorate .ensures tt) in
           subst kept (sym (w .greatest-is)) (greatest-keeps is q i x within read _ b bound (c .loop-interval .inv))
       | in-rest w ↦
           let bound = not-closed (spans is) q b (x .top) (sym closed ∙ w .in-rest .is) in

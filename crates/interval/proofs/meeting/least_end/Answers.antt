@@ -1,6 +1,6 @@
-use Prim.Native.Nat.{ℕ, _≤_, _<_, _+_, min}
+use Prim.Native.Nat.{ℕ, _+_, min}
 use mathlib.Core.Path.{_≡_, sym, ap, subst, _∙_}
-use native.Mathlib.Omega.{arith}
+use lib.Dec.{leb}
 use lib.ListN.{take}
 use Rattle.std.proofs.shelf.Lists.{take-all}
 use Rattle.std.specs.declared.option.Option.the-variants.{Some}
@@ -8,7 +8,7 @@ use Rattle.std.specs.Options.{valueOr}
 use Rattle.interval.specs.Meetings.{spans, holders}
 use Rattle.interval.proofs.Ends.{LeastOf, least-keeps, least-takes, least-end}
 use Rattle.interval.proofs.meeting.least_end.Needs as need
-use Rattle.interval.proofs.meeting.least_end.Needs.{then-holders-quorum, else-holders-quorum}
+use Rattle.interval.proofs.meeting.least_end.Needs.{then-quorate, else-quorate}
 
 pub loop-interval-again : need.loop-interval-again
 loop-interval-again c =
@@ -20,16 +20,14 @@ loop-interval-again c =
     let within = c .loop-interval-test .taken in
     let read = c .interval-item .is in
     let kept = LeastOf (spans is) q (spans (take (i + 1) is)) in
-    let counted : c .holders .result ≡ holders (spans is) (x .lower) = c .holders .ensures ∙ ap (holders (spans is)) (c .lower-end .ensures) in
-    elim (c .if-holders-quorum .came) [
-      | then-holders-quorum w ↦
-          let e : c .if-holders-quorum .least ≡ Some (min (valueOr r (x .lower)) (x .lower)) =
+    let tested = λ (end : ℕ). leb q (holders (spans is) end) in
+    elim (c .if-quorate .came) [
+      | then-quorate w ↦
+          let e : c .if-quorate .least ≡ Some (min (valueOr r (x .lower)) (x .lower)) =
           w .least-is ∙ ap Some (w .lesser .ensures ∙ ap (λ n. min (valueOr r n) n) (c .lower-end .ensures)) in
-          let enough : q ≤ holders (spans is) (x .lower) = omega (arith, w .if-holders-quorum .taken) in
-          subst kept (sym e) (least-takes is q i x within read r enough (c .loop-interval .inv))
-      | else-holders-quorum w ↦
-          let few : holders (spans is) (x .lower) < q = omega (arith, w .if-holders-quorum .left) in
-          subst kept (sym (w .least-is)) (least-keeps is q i x within read r few (c .loop-interval .inv))
+          subst kept (sym e) (least-takes is q i x within read r (w .if-quorate .ensures tt ∙ ap tested (c .lower-end .ensures)) (c .loop-interval .inv))
+      | else-quorate w ↦
+          subst kept (sym (w .least-is)) (least-keeps is q i x within read r (w .if-quorate .ensures tt ∙ ap tested (c .lower-end .ensures)) (c .loop-interval .inv))
     ]
 
 pub returns : need.returns

@@ -1,16 +1,23 @@
+use mathlib.Core.Path.{_≡_, refl, sym, subst}
+use mathlib.Core.List.{List, _∷_, []}
 use native.Mathlib.Omega.{arith}
-use mathlib.Core.Path.{refl}
+use Rattle.interval.specs.declared.interval.Interval.{Interval}
 use Rattle.interval.specs.declared.top.Top.the-variants.{Closed}
-use Rattle.interval.specs.Spans.{ends}
+use Rattle.interval.specs.Meetings.{spans, Meets}
+use Rattle.interval.specs.Spans.{Span, ends}
 use Rattle.interval.specs.Worked.{three-spans}
 use Rattle.interval.proofs.Examples.{worked-meeting}
 use Rattle.interval.proofs.Meetings.{answers-meeting}
 use Rattle.interval.proofs.worked.worked_meeting.Needs as need
 
 pub returns : need.returns
-returns c = record {
-  defined = worked-meeting;
-  answers =
-      answers-meeting three-spans 2 (ends 0 (Closed 20)) (c .meeting .result) (omega arith) refl worked-meeting
-      (simp (c .ordered .ensures, c .ordered-2 .ensures, c .ordered-3 .ensures) at (c .meeting .ensures .answers));
-}
+returns c =
+    let is : List Interval = c .ordered .result ∷ c .ordered-2 .result ∷ c .ordered-3 .result ∷ [] in
+    let three : three-spans ≡ spans is = cc in
+    record {
+      defined = worked-meeting;
+      answers =
+          answers-meeting is 2 (ends 0 (Closed 20)) (c .meeting .result) (omega arith) refl
+          (subst (λ ss. Meets ss 2 (ends 0 (Closed 20))) three worked-meeting)
+          (c .meeting .ensures .answers);
+    }
