@@ -1,9 +1,9 @@
 -- The laws of the allowance. The rounding is opened here, and where the function that computes it is proved.
-use Prim.Native.Nat.{ℕ, _+_, _-_, _*_, _/_, _≤_}
+use Prim.Native.Nat.{ℕ, _+_, _-_, _≤_}
 use mathlib.Core.Path.{_≡_}
 use native.Mathlib.Omega.{arith}
 use native.Mathlib.Nat.{mul-le-mul-right, mul-le-mul-left, mul-comm, add-mul}
-use Rattle.interval.specs.Allowances.{allowance, million, greatest-tolerance, Fits, AllowanceLaws}
+use Rattle.interval.specs.Allowances.{allowance, greatest-tolerance, Fits, AllowanceLaws}
 
 covers : (x p a : ℕ) → Fits x p a → (a ≤ x + allowance x p) × (x ≤ a + allowance x p)
 unfolding allowance

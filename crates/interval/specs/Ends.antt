@@ -1,13 +1,8 @@
 -- The two ends of a meeting, as the search among the ends of the listed spans finds them.
-use Prim.Native.Nat.{ℕ, _≤_, _<_, min}
-use mathlib.Core.Path.{_≡_}
+use Prim.Native.Nat.{ℕ, _≤_, _<_}
 use mathlib.Core.List.{List}
-use lib.Dec.{leb}
 use Rattle.std.specs.declared.option.Option.{Option}
 use Rattle.std.specs.declared.option.Option.the-variants.{Some, None}
-use Rattle.interval.specs.declared.top.Top.{Top}
-use Rattle.interval.specs.declared.top.Top.the-variants.{Closed, Open}
-use Rattle.interval.specs.Tops.{AtMost, is-open}
 use Rattle.interval.specs.Spans.{Span}
 use Rattle.interval.specs.Meetings.{holders, open-tops, Quorate}
 

@@ -10,7 +10,7 @@ use Rattle.interval.specs.Spans.{Span, ends}
 abbrev pub three-spans : List Span
 three-spans = ends 0 (Closed 10) ∷ ends 10 (Closed 20) ∷ ends 0 (Closed 20) ∷ []
 
--- at quorum 2 they meet in [0, 20], though no time from 11 to 19 lies in the first two
+-- at quorum 2 they meet in [0, 20]: each of its times lies in the last and in one of the others
 abbrev pub WorkedMeeting : Type 0
 WorkedMeeting = Meets three-spans 2 (ends 0 (Closed 20))
 

@@ -1,9 +1,8 @@
-use Prim.Native.Nat.{ℕ, _+_, max}
+use Prim.Native.Nat.{_+_, max}
 use mathlib.Core.Path.{_≡_, sym, ap, subst, _∙_}
 use native.Mathlib.Nat.{le-refl}
 use lib.ListN.{take}
 use Rattle.std.proofs.shelf.Lists.{take-all}
-use Rattle.std.specs.declared.option.Option.the-variants.{Some}
 use Rattle.interval.specs.Tops.{closed-time}
 use Rattle.interval.specs.Meetings.{spans}
 use Rattle.interval.proofs.Ends.{GreatestOf, greatest-keeps, greatest-takes, greatest-end, not-quorate, not-closed}

@@ -1,5 +1,5 @@
 use borrow.Author.Needs.{needs}
-use mathlib.Core.Path.{refl, sym, subst}
+use mathlib.Core.Path.{sym, subst}
 use native.Mathlib.Omega.{arith}
 use Rattle.interval.specs.Meetings.{spans, Meets}
 use Rattle.interval.proofs.Meetings.{meets-open, meets-closed, meeting-laws}

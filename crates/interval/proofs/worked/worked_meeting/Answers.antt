@@ -1,10 +1,10 @@
-use mathlib.Core.Path.{_≡_, refl, sym, subst}
+use mathlib.Core.Path.{_≡_, refl, subst}
 use mathlib.Core.List.{List, _∷_, []}
 use native.Mathlib.Omega.{arith}
 use Rattle.interval.specs.declared.interval.Interval.{Interval}
 use Rattle.interval.specs.declared.top.Top.the-variants.{Closed}
 use Rattle.interval.specs.Meetings.{spans, Meets}
-use Rattle.interval.specs.Spans.{Span, ends}
+use Rattle.interval.specs.Spans.{ends}
 use Rattle.interval.specs.Worked.{three-spans}
 use Rattle.interval.proofs.Examples.{worked-meeting}
 use Rattle.interval.proofs.Meetings.{answers-meeting}
