@@ -6,7 +6,7 @@ pub mod methods;
 // The most numbers that any refusal tells.
 pub const MOST_TOLD: usize = 3;
 
-#[derive(Clone, Copy, PartialEq, Eq, Debug)]
+#[derive(Clone, Copy)]
 pub struct Told {
     numbers: [u64; MOST_TOLD],
     count: usize,
