@@ -5,14 +5,17 @@ use native.Mathlib.Omega.{arith}
 use native.Mathlib.Nat.{mul-le-mul-right, mul-le-mul-left, mul-comm, add-mul}
 use Rattle.interval.specs.Allowances.{allowance, greatest-tolerance, Fits, AllowanceLaws}
 
+-- every true time that fits lies within the allowance
 covers : (x p a : ℕ) → Fits x p a → (a ≤ x + allowance x p) × (x ≤ a + allowance x p)
 unfolding allowance
 covers x p a fits = (omega (arith, mul-comm x p), omega (arith, mul-comm x p))
 
+-- a longer time has no smaller allowance
 monotone : (x y p : ℕ) → x ≤ y → allowance x p ≤ allowance y p
 unfolding allowance
 monotone x y p le = omega (arith, mul-le-mul-right p le)
 
+-- the allowance does not pass the time
 bounded : (x p : ℕ) → p ≤ greatest-tolerance → allowance x p ≤ x
 unfolding allowance
 bounded x p small = omega (arith, mul-le-mul-left x small)
@@ -22,6 +25,7 @@ lengthened : (x more p : ℕ) → p ≤ greatest-tolerance → allowance (x + mo
 unfolding allowance
 lengthened x more p small = omega (arith, add-mul x more p, mul-le-mul-left more small)
 
+-- so a time less its allowance is monotone
 lowered : (x y p : ℕ) → p ≤ greatest-tolerance → x ≤ y → x + allowance y p ≤ y + allowance x p
 lowered x y p small le =
     let e : x + (y - x) ≡ y = omega arith in

@@ -12,9 +12,11 @@ use Rattle.interval.specs.declared.interval.Interval.{Interval}
 use Rattle.interval.specs.Spans.{Span, span}
 use Rattle.interval.specs.Meetings.{spans}
 
+-- one element in front
 pub count-cons : {X : Type 0} (p : X → Bool) (x : X) (xs : List X) → countBy p (x ∷ xs) ≡ cond (p x) 1 0 + countBy p xs
 count-cons p x xs = sumBy-cons (λ y. cond (p y) 1 0) x xs
 
+-- one in front that fails adds nothing
 pub count-no : {X : Type 0} (p : X → Bool) (x : X) (xs : List X) → p x ≡ false → countBy p (x ∷ xs) ≡ countBy p xs
 count-no p x xs fails = omega (arith, count-cons p x xs, ap (λ (b : Bool). cond {A = ℕ} b 1 0) fails)
 
@@ -43,11 +45,13 @@ module _ (p : Span → Bool) (is : List Interval) (i n : ℕ) (x : Interval) (wi
   more =
       ap (countBy p) (spans-more is i x within read) ∙ sumBy-push (λ s. cond (p s) 1 0) (spans (take i is)) (span x)
 
+  -- a turn of the loop at an interval that passes, and at one that fails
   pub counted-yes : (m : ℕ) → true ≡ p (span x) → m ≡ n + 1 → Counted p is i n → Counted p is (i + 1) m
   counted-yes m passes counts (e, le) = let step = rw (← passes) at more in (omega arith, omega arith)
 
   pub counted-no : (m : ℕ) → false ≡ p (span x) → m ≡ n → Counted p is i n → Counted p is (i + 1) m
   counted-no m fails counts (e, le) = let step = rw (← fails) at more in (omega arith, omega arith)
 
+-- after the last turn
 pub counted-all : (p : Span → Bool) (is : List Interval) (i n : ℕ) → length is ≤ i → Counted p is i n → n ≡ countBy p (spans is)
 counted-all p is i n whole (e, le) = e ∙ ap (λ js. countBy p (spans js)) (take-all i is whole)

@@ -23,10 +23,11 @@ use Rattle.interval.specs.Spans.{Span, span, holds}
 use Rattle.interval.specs.Meetings.{spans, holders, open-tops, Quorate}
 use Rattle.interval.specs.Ends.{LeastPoint, GreatestPoint}
 use Rattle.interval.proofs.Counts.{counts-no-fewer, spans-more}
-use Rattle.interval.proofs.Nearest.{anchor, anchor-low, anchored, anchor-end, roof, roof-high, roofed, roof-end}
+use Rattle.interval.proofs.Nearest.{nearest-lower, lower-below, holds-from-lower, lower-of-one, nearest-top, top-above, no-top-below, top-of-one}
 use Rattle.interval.proofs.Numbers.{min-either, max-either}
 use Rattle.interval.proofs.Spans.{holds-decides}
 
+-- no time is none
 none-some : (t : ℕ) → None ≡ Some t → ⊥
 none-some t e = let z : _≡_ {A = ℕ} 0 1 = cc in omega arith
 
@@ -37,35 +38,36 @@ open-above Open all = refl
 
 module _ (ss : List Span) (q : ℕ) where
   -- below every quorate point lies a quorate lower end
-  lower-quorate : (x : ℕ) → Quorate ss q x → Quorate ss q (anchor x ss)
+  lower-quorate : (x : ℕ) → Quorate ss q x → Quorate ss q (nearest-lower x ss)
   lower-quorate x enough =
       le-trans enough
-      (counts-no-fewer (λ s. holds s x) (λ s. holds s (anchor x ss)) ss (anchored x (anchor x ss) ss (le-refl _) (anchor-low x ss)))
+      (counts-no-fewer (λ s. holds s x) (λ s. holds s (nearest-lower x ss)) ss (holds-from-lower x (nearest-lower x ss) ss (le-refl _) (lower-below x ss)))
 
   -- what the search among the lower ends keeps, once it has seen some of the spans
   abbrev pub LeastOf : List Span → Option ℕ → Type 0
   LeastOf seen (Some b) = Quorate ss q b × All (λ s. Quorate ss q (s .lower) → b ≤ s .lower) seen
   LeastOf seen None = All (λ s. Quorate ss q (s .lower) → ⊥) seen
 
+  -- after the last span it is the least quorate point
   pub least-end : 0 < q → (r : Option ℕ) → LeastOf ss r → LeastPoint ss q r
   least-end some (Some b) (enough, least) = (
     enough,
     λ x quorate.
         le-trans
-        (anchor-end x (λ l. Quorate ss q l → b ≤ l) ss (omega arith) least (lower-quorate x quorate))
-        (anchor-low x ss),
+        (lower-of-one x (λ l. Quorate ss q l → b ≤ l) ss (omega arith) least (lower-quorate x quorate))
+        (lower-below x ss),
   )
   least-end some None none =
       λ x.
       ⊎-elim (λ few. few)
-      (λ quorate. absurd (anchor-end x (λ l. Quorate ss q l → ⊥) ss (omega arith) none (lower-quorate x quorate)))
+      (λ quorate. absurd (lower-of-one x (λ l. Quorate ss q l → ⊥) ss (omega arith) none (lower-quorate x quorate)))
       (cases-lt (holders ss x) q)
 
   -- a closed top that lies in at least q of the spans is no more than b
   abbrev pub TopBy : ℕ → Top → Type 0
   TopBy b top = (t : ℕ) → closed-time top ≡ Some t → Quorate ss q t → t ≤ b
 
-  -- a top that lies in fewer than q of the spans, or is open, bounds nothing
+  -- a top that lies in fewer than q of the spans, or is open, asks nothing of b
   pub not-quorate : (b : ℕ) (top : Top) (t : ℕ) → closed-time top ≡ Some t → false ≡ leb q (holders ss t) → TopBy b top
   not-quorate b top t closed fails u e enough = let same : u ≡ t = cc in absurd (omega (arith, ap (holders ss) same, leb-false q (holders ss t) (sym fails)))
 
@@ -79,25 +81,27 @@ module _ (ss : List Span) (q : ℕ) where
     pub greatest : All (λ s. TopBy b (s .top)) seen
 
   -- above every quorate point lies a quorate closed top, unless q tops are open
-  top-quorate : (x b : ℕ) → open-tops ss < q → Quorate ss q x → (t : Top) → roof x ss ≡ t → AtMost x t → TopBy b t → x ≤ b
+  top-quorate : (x b : ℕ) → open-tops ss < q → Quorate ss q x → (t : Top) → nearest-top x ss ≡ t → AtMost x t → TopBy b t → x ≤ b
   top-quorate x b few enough (Closed t) is below bound =
-      let tops = roofed x (Closed t) ss (λ l le. subst (AtMost l) (sym is) le) in
+      let tops = no-top-below x (Closed t) ss (λ l le. subst (AtMost l) (sym is) le) in
       let held = all-weaker _ _ (λ s top h. holds-decides s t .1 (le-trans (holds-decides s x .0 h .0) below, top h t (le-refl t))) ss tops in
       le-trans below (bound t refl (le-trans enough (counts-no-fewer (λ s. holds s x) (λ s. holds s t) ss held)))
   top-quorate x b few enough Open is below bound =
-      let tops = roofed x Open ss (λ l le. subst (AtMost l) (sym is) le) in
+      let tops = no-top-below x Open ss (λ l le. subst (AtMost l) (sym is) le) in
       let opens : All (λ s. holds s x ≡ true → is-open (s .top) ≡ true) ss = all-weaker _ _ (λ s top h. open-above (s .top) (λ l. top h l tt)) ss tops in
       absurd (omega (arith, counts-no-fewer (λ s. holds s x) (λ s. is-open (s .top)) ss opens))
 
+  -- after the last span it is the greatest quorate point, unless q tops are open
   pub greatest-end : (floor b : ℕ) → GreatestOf floor ss b → GreatestPoint ss q floor b
   greatest-end floor b kept = record {
     above = kept .above;
     quorate = kept .quorate;
-    greatest = λ few x enough. top-quorate x b few enough (roof x ss) refl (roof-high x ss) (roof-end x (TopBy b) ss (not-closed b Open refl) (kept .greatest));
+    greatest = λ few x enough. top-quorate x b few enough (nearest-top x ss) refl (top-above x ss) (top-of-one x (TopBy b) ss (not-closed b Open refl) (kept .greatest));
   }
 
 -- one turn of each search, where x is the interval at i
 module _ (is : List Interval) (q i : ℕ) (x : Interval) (within : i < length is) (read : x ≡ getD is i x) where
+  -- a lower end in too few of the spans changes nothing
   pub least-keeps : (r : Option ℕ) → false ≡ leb q (holders (spans is) (x .lower)) → LeastOf (spans is) q (spans (take i is)) r → LeastOf (spans is) q (spans (take (i + 1) is)) r
   least-keeps r fails kept = rw (spans-more is i x within read) (keeps r kept)
     where
@@ -108,6 +112,7 @@ module _ (is : List Interval) (q i : ℕ) (x : Interval) (within : i < length is
       keeps (Some b) (enough, least) = (enough, all-push _ _ (span x) least (λ quorate. absurd (omega (arith, few))))
       keeps None none = all-push _ _ (span x) none (λ quorate. omega (arith, few))
 
+  -- a quorate one is taken where it is less
   pub least-takes : (r : Option ℕ) → true ≡ leb q (holders (spans is) (x .lower)) → LeastOf (spans is) q (spans (take i is)) r → LeastOf (spans is) q (spans (take (i + 1) is)) (Some (min (valueOr r (x .lower)) (x .lower)))
   least-takes r passes kept = rw (spans-more is i x within read) (takes r kept)
     where
@@ -124,6 +129,7 @@ module _ (is : List Interval) (q i : ℕ) (x : Interval) (within : i < length is
         all-push _ _ (span x) (all-weaker _ _ (λ s none quorate. absurd (none quorate)) _ none) (λ _. omega arith),
       )
 
+  -- a top that bounds nothing more changes nothing
   pub greatest-keeps : (floor b : ℕ) → TopBy (spans is) q b (x .top) → GreatestOf (spans is) q floor (spans (take i is)) b → GreatestOf (spans is) q floor (spans (take (i + 1) is)) b
   greatest-keeps floor b bound kept = record {
     above = kept .above;
@@ -131,6 +137,7 @@ module _ (is : List Interval) (q i : ℕ) (x : Interval) (within : i < length is
     greatest = rw (spans-more is i x within read) (all-push _ _ (span x) (kept .greatest) bound);
   }
 
+  -- a quorate closed top is taken where it is greater
   pub greatest-takes : (floor b t : ℕ) → closed-time (x .top) ≡ Some t → true ≡ leb q (holders (spans is) t) → GreatestOf (spans is) q floor (spans (take i is)) b → GreatestOf (spans is) q floor (spans (take (i + 1) is)) (max b t)
   greatest-takes floor b t closed passes kept = record {
     above = omega (arith, kept .above);

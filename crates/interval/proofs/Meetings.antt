@@ -40,6 +40,7 @@ open-holds x (s ∷ ss) far = (λ opened. holds-decides s x .1 (omega arith, nev
     never Open opened = tt
 
 module _ (ss : List Span) (q b : ℕ) (least : LeastPoint ss q (Some b)) where
+  -- with q open tops the least point and an open top make the meeting
   pub meets-open : q ≤ open-tops ss → Meets ss q (ends b Open)
   meets-open opens = record {
     holding = λ x enough. (least .1 x enough, tt);
@@ -50,6 +51,7 @@ module _ (ss : List Span) (q b : ℕ) (least : LeastPoint ss q (Some b)) where
     openness = sym (le-leb _ _ opens);
   }
 
+  -- with fewer, the least and the greatest point do
   pub meets-closed : (t : ℕ) → open-tops ss < q → GreatestPoint ss q b t → Meets ss q (ends b (Closed t))
   meets-closed t few top = record {
     holding = λ x enough. (least .1 x enough, top .greatest few x enough);
@@ -85,6 +87,7 @@ closed-end ss q l t ordered meets =
     (λ enough. enough)
     (cases-lt (holders ss t) q)
 
+-- the same of any span whose top is closed
 closed-top : (ss : List Span) (q t : ℕ) (m : Span) → InOrder m → Meets ss q m → m .top ≡ Closed t → Quorate ss q t
 closed-top ss q t m ordered meets closed =
     closed-end ss q (m .lower) t (subst (AtMost (m .lower)) closed ordered) (subst (λ top. Meets ss q (ends (m .lower) top)) closed meets)
@@ -97,6 +100,7 @@ one-top ss q l k (Closed s) Open ordered ordered′ first second = absurd (false
 one-top ss q l k Open (Closed t) ordered ordered′ first second = absurd (true≢false (first .openness ∙ sym (second .openness)))
 one-top ss q l k Open Open ordered ordered′ first second = refl
 
+-- and the same lower end
 one-lower : (ss : List Span) (q : ℕ) (m n : Span) → InOrder m → InOrder n → Meets ss q m → Meets ss q n → m .lower ≡ n .lower
 one-lower ss q m n ordered ordered′ first second =
     omega (arith, second .holding (m .lower) (lower-end ss q m ordered first) .0, first .holding (n .lower) (lower-end ss q n ordered′ second) .0)

@@ -5,6 +5,7 @@ use mathlib.Core.Logic.{⊎-elim}
 use native.Mathlib.Omega.{arith}
 use Rattle.std.proofs.shelf.Tests.{cases-lt}
 
+-- what holds of both holds of the lesser
 pub min-either : (P : ℕ → Type 0) (m n : ℕ) → P m → P n → P (min m n)
 min-either P m n first second =
     ⊎-elim
@@ -12,7 +13,7 @@ min-either P m n first second =
     (λ le. let e : n ≡ min m n = omega arith in subst P e second)
     (cases-lt m n)
 
--- the second is asked for only where it is the greater
+-- what holds of both holds of the greater; the second is asked for only where it is the greater
 pub max-either : (P : ℕ → Type 0) (m n : ℕ) → P m → (m < n → P n) → P (max m n)
 max-either P m n first second =
     ⊎-elim

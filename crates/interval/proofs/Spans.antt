@@ -1,4 +1,4 @@
--- The times that a span holds: tests and facts, and what lies between two of them.
+-- What a span holds: tests and facts, earlier times, and the lower of two tops.
 use Prim.Native.Nat.{ℕ, _≤_}
 use mathlib.Core.Path.{refl}
 use native.Mathlib.Omega.{arith}
@@ -13,6 +13,7 @@ use Rattle.interval.specs.Spans.{Span, span, Holds, holds, InOrder}
 use Rattle.interval.specs.Shared.{least-top}
 use Rattle.interval.proofs.Numbers.{min-either}
 
+-- the test of a top and its fact agree
 at-most-decides : (x : ℕ) (t : Top) → Decides (at-most x t) (AtMost x t)
 at-most-decides x (Closed t) = (leb-true x t, le-leb x t)
 at-most-decides x Open = (λ _. tt, λ _. refl)
@@ -26,13 +27,14 @@ pub at-most-before : (x y : ℕ) (t : Top) → x ≤ y → AtMost y t → AtMost
 at-most-before x y (Closed t) le below = omega arith
 at-most-before x y Open le below = tt
 
--- a time passes neither of two tops exactly when it does not pass the lower of them
+-- a time that does not pass the lower of two tops passes neither
 pub least-top-parts : (x : ℕ) (s t : Top) → AtMost x (least-top s t) → AtMost x s × AtMost x t
 least-top-parts x (Closed s) (Closed t) below = (omega arith, omega arith)
 least-top-parts x (Closed s) Open below = (below, tt)
 least-top-parts x Open (Closed t) below = (tt, below)
 least-top-parts x Open Open below = (tt, tt)
 
+-- and the other way round
 pub least-top-both : (x : ℕ) (s t : Top) → AtMost x s → AtMost x t → AtMost x (least-top s t)
 least-top-both x (Closed s) (Closed t) one other = omega arith
 least-top-both x (Closed s) Open one other = one

@@ -1,3 +1,4 @@
+-- `allowance` answers the definition, and carries its laws.
 use borrow.Author.Needs.{needs}
 use Rattle.interval.specs.Allowances.{allowance}
 use Rattle.interval.proofs.Allowances.{allowance-laws}

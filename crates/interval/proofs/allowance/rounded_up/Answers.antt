@@ -1,3 +1,4 @@
+-- `rounded_up`: what it answers fits 64 bits.
 use native.Mathlib.Omega.{arith}
 use native.Mathlib.Nat.{mul-le-mul-left}
 use Rattle.interval.proofs.allowance.rounded_up.Needs as need

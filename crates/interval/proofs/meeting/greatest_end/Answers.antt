@@ -1,3 +1,4 @@
+-- `greatest_end`: each turn keeps what is said of the tops seen, and at the end it is the greatest point.
 use Prim.Native.Nat.{_+_, max}
 use mathlib.Core.Path.{_≡_, sym, ap, subst, _∙_}
 use native.Mathlib.Nat.{le-refl}

@@ -1,3 +1,4 @@
+-- `greatest_end` keeps the greatest of its start and the closed tops seen that lie in at least `quorum` of the intervals.
 use lib.ListN.{take}
 use Rattle.interval.specs.Meetings.{spans}
 use Rattle.interval.proofs.Ends.{GreatestOf}

@@ -1,3 +1,4 @@
+-- `holders`: each turn counts one interval more.
 use Rattle.interval.specs.Spans.{Span, holds}
 use Rattle.interval.proofs.Counts.{counted-yes, counted-no, counted-all}
 use Rattle.interval.proofs.meeting.holders.Needs as need

@@ -1,3 +1,4 @@
+-- `holders` has counted those of the intervals seen that hold x.
 use Rattle.interval.specs.Spans.{holds}
 use Rattle.interval.proofs.Counts.{Counted}
 use Rattle.interval.proofs.meeting.holders.Given as given

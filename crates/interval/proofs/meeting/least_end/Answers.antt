@@ -1,3 +1,4 @@
+-- `least_end`: each turn keeps what is said of the ends seen, and at the end it is the least point.
 use Prim.Native.Nat.{ℕ, _+_, min}
 use mathlib.Core.Path.{_≡_, sym, ap, subst, _∙_}
 use lib.Dec.{leb}

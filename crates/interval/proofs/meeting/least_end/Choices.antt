@@ -1,3 +1,4 @@
+-- `least_end` keeps the least of the lower ends seen that lie in at least `quorum` of the intervals.
 use lib.ListN.{take}
 use Rattle.interval.specs.Meetings.{spans}
 use Rattle.interval.proofs.Ends.{LeastOf}

@@ -1,3 +1,4 @@
+-- `meeting` answers by the relation: the two ends found make the meeting.
 use borrow.Author.Needs.{needs}
 use mathlib.Core.Path.{sym, subst}
 use native.Mathlib.Omega.{arith}

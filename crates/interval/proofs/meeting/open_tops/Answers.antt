@@ -1,3 +1,4 @@
+-- `open_tops`: each turn counts one interval more.
 use mathlib.Core.Path.{ap, _∙_}
 use Rattle.interval.specs.Spans.{Span}
 use Rattle.interval.specs.Tops.{is-open}

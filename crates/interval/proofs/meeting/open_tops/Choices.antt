@@ -1,3 +1,4 @@
+-- `open_tops` has counted those of the intervals seen whose tops are open.
 use Rattle.interval.specs.Tops.{is-open}
 use Rattle.interval.proofs.Counts.{Counted}
 use Rattle.interval.proofs.meeting.open_tops.Given as given

@@ -1,3 +1,4 @@
+-- `worked_meeting`: what meets is what `meeting` answers.
 use mathlib.Core.Path.{_≡_, refl, subst}
 use mathlib.Core.List.{List, _∷_, []}
 use native.Mathlib.Omega.{arith}
