@@ -7,7 +7,6 @@ use mathlib.Core.List.{List, [], _∷_, _++_}
 use mathlib.Core.Logic.{_⊎_, ⊎-elim}
 use native.Mathlib.Omega.{arith}
 use native.Mathlib.Nat.{le-refl, le-trans}
-use lib.Dec.{leb}
 use lib.ListN.{length, take, getD}
 use Rattle.std.specs.declared.option.Option.{Option}
 use Rattle.std.specs.declared.option.Option.the-variants.{Some, None}
@@ -20,7 +19,7 @@ use Rattle.interval.specs.declared.top.Top.{Top}
 use Rattle.interval.specs.declared.top.Top.the-variants.{Closed, Open}
 use Rattle.interval.specs.Tops.{AtMost, is-open, closed-time}
 use Rattle.interval.specs.Spans.{Span, span, holds}
-use Rattle.interval.specs.Meetings.{spans, holders, open-tops, Quorate}
+use Rattle.interval.specs.Meetings.{spans, holders, open-tops, Quorate, quorate}
 use Rattle.interval.specs.Ends.{LeastPoint, GreatestPoint}
 use Rattle.interval.proofs.Counts.{counts-no-fewer, spans-more}
 use Rattle.interval.proofs.Nearest.{nearest-lower, lower-below, holds-from-lower, lower-of-one, nearest-top, top-above, no-top-below, top-of-one}
@@ -68,7 +67,7 @@ module _ (ss : List Span) (q : ℕ) where
   TopBy b top = (t : ℕ) → closed-time top ≡ Some t → Quorate ss q t → t ≤ b
 
   -- a top that lies in fewer than q of the spans, or is open, asks nothing of b
-  pub not-quorate : (b : ℕ) (top : Top) (t : ℕ) → closed-time top ≡ Some t → false ≡ leb q (holders ss t) → TopBy b top
+  pub not-quorate : (b : ℕ) (top : Top) (t : ℕ) → closed-time top ≡ Some t → false ≡ quorate ss q t → TopBy b top
   not-quorate b top t closed fails u e enough = let same : u ≡ t = cc in absurd (omega (arith, ap (holders ss) same, leb-false q (holders ss t) (sym fails)))
 
   pub not-closed : (b : ℕ) (top : Top) → closed-time top ≡ None → TopBy b top
@@ -102,7 +101,7 @@ module _ (ss : List Span) (q : ℕ) where
 -- one turn of each search, where x is the interval at i
 module _ (is : List Interval) (q i : ℕ) (x : Interval) (within : i < length is) (read : x ≡ getD is i x) where
   -- a lower end in too few of the spans changes nothing
-  pub least-keeps : (r : Option ℕ) → false ≡ leb q (holders (spans is) (x .lower)) → LeastOf (spans is) q (spans (take i is)) r → LeastOf (spans is) q (spans (take (i + 1) is)) r
+  pub least-keeps : (r : Option ℕ) → false ≡ quorate (spans is) q (x .lower) → LeastOf (spans is) q (spans (take i is)) r → LeastOf (spans is) q (spans (take (i + 1) is)) r
   least-keeps r fails kept = rw (spans-more is i x within read) (keeps r kept)
     where
       few : holders (spans is) (x .lower) < q
@@ -113,7 +112,7 @@ module _ (is : List Interval) (q i : ℕ) (x : Interval) (within : i < length is
       keeps None none = all-push _ _ (span x) none (λ quorate. omega (arith, few))
 
   -- a quorate one is taken where it is less
-  pub least-takes : (r : Option ℕ) → true ≡ leb q (holders (spans is) (x .lower)) → LeastOf (spans is) q (spans (take i is)) r → LeastOf (spans is) q (spans (take (i + 1) is)) (Some (min (valueOr r (x .lower)) (x .lower)))
+  pub least-takes : (r : Option ℕ) → true ≡ quorate (spans is) q (x .lower) → LeastOf (spans is) q (spans (take i is)) r → LeastOf (spans is) q (spans (take (i + 1) is)) (Some (min (valueOr r (x .lower)) (x .lower)))
   least-takes r passes kept = rw (spans-more is i x within read) (takes r kept)
     where
       here : Quorate (spans is) q (x .lower)
@@ -138,7 +137,7 @@ module _ (is : List Interval) (q i : ℕ) (x : Interval) (within : i < length is
   }
 
   -- a quorate closed top is taken where it is greater
-  pub greatest-takes : (floor b t : ℕ) → closed-time (x .top) ≡ Some t → true ≡ leb q (holders (spans is) t) → GreatestOf (spans is) q floor (spans (take i is)) b → GreatestOf (spans is) q floor (spans (take (i + 1) is)) (max b t)
+  pub greatest-takes : (floor b t : ℕ) → closed-time (x .top) ≡ Some t → true ≡ quorate (spans is) q t → GreatestOf (spans is) q floor (spans (take i is)) b → GreatestOf (spans is) q floor (spans (take (i + 1) is)) (max b t)
   greatest-takes floor b t closed passes kept = record {
     above = omega (arith, kept .above);
     quorate = λ quorate. max-either (Quorate (spans is) q) b t (kept .quorate quorate) (λ _. leb-true q (holders (spans is) t) (sym passes));

@@ -30,6 +30,10 @@ open-tops ss = countBy (λ s. is-open (s .top)) ss
 abbrev pub Quorate : List Span → ℕ → ℕ → Type 0
 Quorate ss q x = q ≤ holders ss x
 
+-- the same as a test
+abbrev pub quorate : List Span → ℕ → ℕ → Bool
+quorate ss q x = leb q (holders ss x)
+
 pub record Meets (ss : List Span) (q : ℕ) (m : Span) : Type 0 where
   -- the meeting holds every point that lies in at least q of the spans
   pub holding : (x : ℕ) → Quorate ss q x → Holds m x

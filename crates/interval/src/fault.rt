@@ -6,6 +6,11 @@ ghost use mathlib.Core.List.{List};
 ghost use mathlib.Core.Path.{_≡_};
 use crate::told::Told;
 
+// The numbers of the refusals.
+const NO_MEETING: u32 = 5;
+
+const OUT_OF_RULE: u32 = 19;
+
 pub trait Refusal {
     // The number of the refusal, and the numbers told with it, in their order.
     ghost numbered: { Self → ℕ };
@@ -32,7 +37,7 @@ pub impl Refusal for RuleFault as RuleRefusal {
 
     fn number(&self) -> u32 {
         match self {
-            RuleFault::OutOfRule { place: _ } => 19,
+            RuleFault::OutOfRule { place: _ } => OUT_OF_RULE,
         }
     }
 
@@ -57,8 +62,8 @@ pub impl Refusal for MeetingFault as MeetingRefusal {
 
     fn number(&self) -> u32 {
         match self {
-            MeetingFault::Empty => 5,
-            MeetingFault::OutOfRule { quorum: _ } => 19,
+            MeetingFault::Empty => NO_MEETING,
+            MeetingFault::OutOfRule { quorum: _ } => OUT_OF_RULE,
         }
     }
 

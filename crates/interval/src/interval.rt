@@ -6,8 +6,8 @@ use crate::top::Top;
 use crate::top::TopDebug;
 use crate::top::TopPartialEq;
 
-pub mod ends;
-pub mod methods;
+mod ends;
+mod methods;
 
 #[derive(Clone, Copy, PartialEq, Eq, Debug)]
 pub struct Interval {

@@ -1,10 +1,9 @@
 // The meeting of intervals at a quorum, found by trying the ends of the intervals themselves.
 ghost use mathlib.Core.Path.{_≡_};
-ghost use lib.Dec.{leb};
 ghost use Prim.Native.Nat.{_<_, min};
 ghost use Rattle.std.specs.Options.{valueOr};
 ghost use Rattle.interval.specs.Ends.{LeastPoint, GreatestPoint};
-ghost use Rattle.interval.specs.Meetings.{spans, holders, open-tops, in-rule, MeetingAnswer, MeetingLaws};
+ghost use Rattle.interval.specs.Meetings.{spans, holders, quorate, open-tops, in-rule, MeetingAnswer, MeetingLaws};
 use crate::fault::MeetingFault;
 use crate::interval::Interval;
 use crate::top::Top;
@@ -53,7 +52,7 @@ fn holders(intervals: &[Interval], x: u64) -> usize
 
 // Whether at least `quorum` of the intervals hold `x`.
 fn quorate(intervals: &[Interval], x: u64, quorum: usize) -> bool
-    ensures { λ r. ⌜ r ≡ leb quorum (holders (spans (now (intervals .entry))) x) ⌝ }
+    ensures { λ r. ⌜ r ≡ quorate (spans (now (intervals .entry))) quorum x ⌝ }
 {
     holders(intervals, x) >= quorum
 }

@@ -1,7 +1,7 @@
 // The numbers that a refusal tells, in their order; its functions are in the module below.
 ghost use Prim.Native.Nat.{_≤_};
 
-pub mod methods;
+mod methods;
 
 // The most numbers that any refusal tells.
 pub const MOST_TOLD: usize = 3;

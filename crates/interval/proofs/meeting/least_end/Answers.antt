@@ -1,12 +1,11 @@
 -- `least_end`: each turn keeps what is said of the ends seen, and at the end it is the least point.
-use Prim.Native.Nat.{ℕ, _+_, min}
+use Prim.Native.Nat.{_+_, min}
 use mathlib.Core.Path.{_≡_, sym, ap, subst, _∙_}
-use lib.Dec.{leb}
 use lib.ListN.{take}
 use Rattle.std.proofs.shelf.Lists.{take-all}
 use Rattle.std.specs.declared.option.Option.the-variants.{Some}
 use Rattle.std.specs.Options.{valueOr}
-use Rattle.interval.specs.Meetings.{spans, holders}
+use Rattle.interval.specs.Meetings.{spans, quorate}
 use Rattle.interval.proofs.Ends.{LeastOf, least-keeps, least-takes, least-end}
 use Rattle.interval.proofs.meeting.least_end.Needs as need
 use Rattle.interval.proofs.meeting.least_end.Needs.{then-quorate, else-quorate}
@@ -21,14 +20,14 @@ loop-interval-again c =
     let within = c .loop-interval-test .taken in
     let read = c .interval-item .is in
     let kept = LeastOf (spans is) q (spans (take (i + 1) is)) in
-    let tested = λ (end : ℕ). leb q (holders (spans is) end) in
+    let lower : quorate (spans is) q (c .lower-end .result) ≡ quorate (spans is) q (x .lower) = ap (quorate (spans is) q) (c .lower-end .ensures) in
     elim (c .if-quorate .came) [
       | then-quorate w ↦
           let e : c .if-quorate .least ≡ Some (min (valueOr r (x .lower)) (x .lower)) =
           w .least-is ∙ ap Some (w .lesser .ensures ∙ ap (λ n. min (valueOr r n) n) (c .lower-end .ensures)) in
-          subst kept (sym e) (least-takes is q i x within read r (w .if-quorate .ensures tt ∙ ap tested (c .lower-end .ensures)) (c .loop-interval .inv))
+          subst kept (sym e) (least-takes is q i x within read r (w .if-quorate .ensures tt ∙ lower) (c .loop-interval .inv))
       | else-quorate w ↦
-          subst kept (sym (w .least-is)) (least-keeps is q i x within read r (w .if-quorate .ensures tt ∙ ap tested (c .lower-end .ensures)) (c .loop-interval .inv))
+          subst kept (sym (w .least-is)) (least-keeps is q i x within read r (w .if-quorate .ensures tt ∙ lower) (c .loop-interval .inv))
     ]
 
 pub returns : need.returns
