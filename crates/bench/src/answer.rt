@@ -1,7 +1,7 @@
 // What the library answered, in the form in which the bench prints it.
 ghost use Rattle.bench.specs.Answers.{Refuses};
 ghost use Rattle.bench.specs.declared.answer.Answer.{Answer};
-ghost use Rattle.bench.specs.declared.answer.Answer.the-variants.{Nothing, Span, Time};
+ghost use Rattle.bench.specs.declared.answer.Answer.the-variants.{Interval as ShownInterval, Nothing, Time};
 ghost use Rattle.std.specs.Options.{Cases as BySome};
 ghost use Rattle.std.specs.Results.{Cases};
 ghost use mathlib.Core.Path.{_≡_};
@@ -13,7 +13,7 @@ use std::fmt;
 
 #[derive(Clone, Copy)]
 pub enum Answer {
-    Span(Interval),
+    Interval(Interval),
     Time(u64),
     Nothing,
     Refused { number: u32, told: Told },
@@ -29,10 +29,10 @@ pub trait Answered {
 }
 
 pub impl Answered for Interval as IntervalAnswered {
-    ghost shown = { λ interval r. r ≡ Span interval };
+    ghost shown = { λ interval r. r ≡ ShownInterval interval };
 
     fn answer(self) -> Answer {
-        Answer::Span(self)
+        Answer::Interval(self)
     }
 }
 
@@ -44,22 +44,29 @@ pub impl Answered for u64 as TimeAnswered {
     }
 }
 
-// A result is shown as its value, or as the number of its refusal and the numbers told.
+// A result is shown as its value or as its refusal.
 pub impl<T: Answered, E: Refusal + Drop> Answered for Result<T, E> as ResultAnswered {
     ghost shown = { λ result r. Cases result (λ value. T·Answered .shown value r) (λ fault. Refuses r (E·Refusal .numbered fault) (E·Refusal .tells fault)) };
 
     fn answer(self) -> Answer {
         match self {
             Ok(value) => value.answer(),
-            Err(fault) => Answer::Refused {
-                number: fault.number(),
-                told: fault.told(),
-            },
+            Err(fault) => refused(fault),
         }
     }
 }
 
-// What two intervals share may be nothing.
+// A refusal as its number and the numbers that it tells.
+pub(crate) fn refused<E: Refusal + Drop>(fault: E) -> Answer
+    ensures { λ r. ⌜ Refuses r (E·Refusal .numbered fault) (E·Refusal .tells fault) ⌝ }
+{
+    Answer::Refused {
+        number: fault.number(),
+        told: fault.told(),
+    }
+}
+
+// An option is shown as its value, or as nothing.
 pub impl<T: Answered> Answered for Option<T> as OptionAnswered {
     ghost shown = { λ option r. BySome option (r ≡ Nothing) (λ value. T·Answered .shown value r) };
 
@@ -74,7 +81,7 @@ pub impl<T: Answered> Answered for Option<T> as OptionAnswered {
 pub impl fmt::Display for Answer as AnswerDisplay {
     fn fmt<W: fmt::Write>(&self, f: &mut fmt::Formatter<W>) -> fmt::Result {
         match self {
-            Answer::Span(interval) => {
+            Answer::Interval(interval) => {
                 let lower = interval.lower();
                 match interval.top() {
                     Top::Closed(top) => write!(f, "[{lower}, {top}]"),

@@ -1,11 +1,11 @@
-// Four clocks timed the same outage, and the last is far off: where do enough of them agree?
+// Four clocks that timed the same outage, the last of them far off: their meetings, and what two of them share.
+use crate::answer;
 use crate::answer::AnswerDisplay;
 use crate::answer::Answered;
 use crate::answer::IntervalAnswered;
 use crate::answer::OptionAnswered;
 use crate::answer::ResultAnswered;
 use interval::fault::MeetingRefusal;
-use interval::fault::Refusal;
 use interval::fault::RuleFault;
 use interval::fault::RuleRefusal;
 use interval::interval::Interval;
@@ -17,8 +17,8 @@ pub(crate) fn run(rt: &LibcRuntime) -> io::Result<()> {
     match stated() {
         Ok(clocks) => report(rt, &clocks),
         Err(fault) => {
-            let number = fault.number();
-            println!(rt, "clocks: refusal {number}")
+            let refused = answer::refused(fault);
+            println!(rt, "clocks: {refused}")
         }
     }
 }

@@ -33,6 +33,7 @@ lowered x y p small le =
     let k = rw e at h in
     omega arith
 
+-- what the layers above may use of the allowance
 pub allowance-laws : AllowanceLaws
 allowance-laws = record {
   covers = covers;

@@ -4,7 +4,7 @@ use Prim.Native.Nat.{ℕ, _+_, _≤_, _<_, max, min}
 use mathlib.Core.Path.{_≡_, refl, sym, ap, subst, _∙_}
 use mathlib.Core.Bool.{true, false}
 use mathlib.Core.List.{List, [], _∷_, _++_}
-use mathlib.Core.Logic.{_⊎_, ⊎-elim}
+use mathlib.Core.Logic.{⊎-elim}
 use native.Mathlib.Omega.{arith}
 use native.Mathlib.Nat.{le-refl, le-trans}
 use lib.ListN.{length, take, getD}
@@ -51,15 +51,15 @@ module _ (ss : List Span) (q : ℕ) where
   pub least-end : 0 < q → (r : Option ℕ) → LeastOf ss r → LeastPoint ss q r
   least-end some (Some b) (enough, least) = (
     enough,
-    λ x quorate.
+    λ x enough′.
         le-trans
-        (lower-of-one x (λ l. Quorate ss q l → b ≤ l) ss (omega arith) least (lower-quorate x quorate))
+        (lower-of-one x (λ l. Quorate ss q l → b ≤ l) ss (omega arith) least (lower-quorate x enough′))
         (lower-below x ss),
   )
   least-end some None none =
       λ x.
       ⊎-elim (λ few. few)
-      (λ quorate. absurd (lower-of-one x (λ l. Quorate ss q l → ⊥) ss (omega arith) none (lower-quorate x quorate)))
+      (λ enough′. absurd (lower-of-one x (λ l. Quorate ss q l → ⊥) ss (omega arith) none (lower-quorate x enough′)))
       (cases-lt (holders ss x) q)
 
   -- a closed top that lies in at least q of the spans is no more than b
@@ -76,7 +76,7 @@ module _ (ss : List Span) (q : ℕ) where
   -- what the search among the closed tops keeps, once it has seen some of the spans
   pub record GreatestOf (floor : ℕ) (seen : List Span) (b : ℕ) : Type 0 where
     pub above : floor ≤ b
-    pub quorate : Quorate ss q floor → Quorate ss q b
+    pub enough : Quorate ss q floor → Quorate ss q b
     pub greatest : All (λ s. TopBy b (s .top)) seen
 
   -- above every quorate point lies a quorate closed top, unless q tops are open
@@ -94,45 +94,45 @@ module _ (ss : List Span) (q : ℕ) where
   pub greatest-end : (floor b : ℕ) → GreatestOf floor ss b → GreatestPoint ss q floor b
   greatest-end floor b kept = record {
     above = kept .above;
-    quorate = kept .quorate;
+    enough = kept .enough;
     greatest = λ few x enough. top-quorate x b few enough (nearest-top x ss) refl (top-above x ss) (top-of-one x (TopBy b) ss (not-closed b Open refl) (kept .greatest));
   }
 
 -- one turn of each search, where x is the interval at i
 module _ (is : List Interval) (q i : ℕ) (x : Interval) (within : i < length is) (read : x ≡ getD is i x) where
-  -- a lower end in too few of the spans changes nothing
-  pub least-keeps : (r : Option ℕ) → false ≡ quorate (spans is) q (x .lower) → LeastOf (spans is) q (spans (take i is)) r → LeastOf (spans is) q (spans (take (i + 1) is)) r
-  least-keeps r fails kept = rw (spans-more is i x within read) (keeps r kept)
+  -- its lower end, in too few of the spans, changes nothing
+  pub least-keeps : (r : Option ℕ) (end : ℕ) → end ≡ x .lower → false ≡ quorate (spans is) q end → LeastOf (spans is) q (spans (take i is)) r → LeastOf (spans is) q (spans (take (i + 1) is)) r
+  least-keeps r end lower fails kept = rw (spans-more is i x within read) (keeps r kept)
     where
       few : holders (spans is) (x .lower) < q
-      few = leb-false q (holders (spans is) (x .lower)) (sym fails)
+      few = subst (λ n. holders (spans is) n < q) lower (leb-false q (holders (spans is) end) (sym fails))
 
       keeps : (r : Option ℕ) → LeastOf (spans is) q (spans (take i is)) r → LeastOf (spans is) q (spans (take i is) ++ span x ∷ []) r
-      keeps (Some b) (enough, least) = (enough, all-push _ _ (span x) least (λ quorate. absurd (omega (arith, few))))
-      keeps None none = all-push _ _ (span x) none (λ quorate. omega (arith, few))
+      keeps (Some b) (enough, least) = (enough, all-push _ _ (span x) least (λ enough′. absurd (omega (arith, few))))
+      keeps None none = all-push _ _ (span x) none (λ enough′. omega (arith, few))
 
   -- a quorate one is taken where it is less
-  pub least-takes : (r : Option ℕ) → true ≡ quorate (spans is) q (x .lower) → LeastOf (spans is) q (spans (take i is)) r → LeastOf (spans is) q (spans (take (i + 1) is)) (Some (min (valueOr r (x .lower)) (x .lower)))
-  least-takes r passes kept = rw (spans-more is i x within read) (takes r kept)
+  pub least-takes : (r : Option ℕ) (end : ℕ) → end ≡ x .lower → true ≡ quorate (spans is) q end → LeastOf (spans is) q (spans (take i is)) r → LeastOf (spans is) q (spans (take (i + 1) is)) (Some (min (valueOr r end) end))
+  least-takes r end lower passes kept = rw (spans-more is i x within read) (takes r kept)
     where
-      here : Quorate (spans is) q (x .lower)
-      here = leb-true q (holders (spans is) (x .lower)) (sym passes)
+      here : Quorate (spans is) q end
+      here = leb-true q (holders (spans is) end) (sym passes)
 
-      takes : (r : Option ℕ) → LeastOf (spans is) q (spans (take i is)) r → LeastOf (spans is) q (spans (take i is) ++ span x ∷ []) (Some (min (valueOr r (x .lower)) (x .lower)))
+      takes : (r : Option ℕ) → LeastOf (spans is) q (spans (take i is)) r → LeastOf (spans is) q (spans (take i is) ++ span x ∷ []) (Some (min (valueOr r end) end))
       takes (Some b) (enough, least) = (
-        min-either (Quorate (spans is) q) b (x .lower) enough here,
-        all-push _ _ (span x) (all-weaker _ _ (λ s least quorate. omega (arith, least quorate)) _ least) (λ _. omega arith),
+        min-either (Quorate (spans is) q) b end enough here,
+        all-push _ _ (span x) (all-weaker _ _ (λ s least enough′. omega (arith, least enough′)) _ least) (λ _. omega arith),
       )
       takes None none = (
-        min-either (Quorate (spans is) q) (x .lower) (x .lower) here here,
-        all-push _ _ (span x) (all-weaker _ _ (λ s none quorate. absurd (none quorate)) _ none) (λ _. omega arith),
+        min-either (Quorate (spans is) q) end end here here,
+        all-push _ _ (span x) (all-weaker _ _ (λ s none enough′. absurd (none enough′)) _ none) (λ _. omega arith),
       )
 
   -- a top that bounds nothing more changes nothing
   pub greatest-keeps : (floor b : ℕ) → TopBy (spans is) q b (x .top) → GreatestOf (spans is) q floor (spans (take i is)) b → GreatestOf (spans is) q floor (spans (take (i + 1) is)) b
   greatest-keeps floor b bound kept = record {
     above = kept .above;
-    quorate = kept .quorate;
+    enough = kept .enough;
     greatest = rw (spans-more is i x within read) (all-push _ _ (span x) (kept .greatest) bound);
   }
 
@@ -140,10 +140,10 @@ module _ (is : List Interval) (q i : ℕ) (x : Interval) (within : i < length is
   pub greatest-takes : (floor b t : ℕ) → closed-time (x .top) ≡ Some t → true ≡ quorate (spans is) q t → GreatestOf (spans is) q floor (spans (take i is)) b → GreatestOf (spans is) q floor (spans (take (i + 1) is)) (max b t)
   greatest-takes floor b t closed passes kept = record {
     above = omega (arith, kept .above);
-    quorate = λ quorate. max-either (Quorate (spans is) q) b t (kept .quorate quorate) (λ _. leb-true q (holders (spans is) t) (sym passes));
+    enough = λ enough. max-either (Quorate (spans is) q) b t (kept .enough enough) (λ _. leb-true q (holders (spans is) t) (sym passes));
     greatest =
         rw (spans-more is i x within read)
         (all-push _ _ (span x)
-        (all-weaker _ _ (λ s bound u e quorate. omega (arith, bound u e quorate)) _ (kept .greatest))
-        (λ u e quorate. let same : u ≡ t = cc in omega arith));
+        (all-weaker _ _ (λ s bound u e enough′. omega (arith, bound u e enough′)) _ (kept .greatest))
+        (λ u e enough′. let same : u ≡ t = cc in omega arith));
   }

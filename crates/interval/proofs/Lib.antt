@@ -1,3 +1,4 @@
+-- The lemmas of this crate; those that other crates may use are public.
 pub mod Allowances
 mod Numbers
 mod Counts

@@ -7,9 +7,8 @@ use Rattle.std.proofs.shelf.Tests.{leb-true, le-leb}
 use Rattle.std.proofs.shelf.Ways.{decides-and}
 use Rattle.interval.specs.declared.top.Top.{Top}
 use Rattle.interval.specs.declared.top.Top.the-variants.{Closed, Open}
-use Rattle.interval.specs.declared.interval.Interval.{Interval}
 use Rattle.interval.specs.Tops.{AtMost, at-most}
-use Rattle.interval.specs.Spans.{Span, span, Holds, holds, InOrder}
+use Rattle.interval.specs.Spans.{Span, Holds, holds}
 use Rattle.interval.specs.Shared.{least-top}
 use Rattle.interval.proofs.Numbers.{min-either}
 
@@ -47,7 +46,3 @@ least-top-either P (Closed s) (Closed t) one other = min-either (λ n. P (Closed
 least-top-either P (Closed s) Open one other = one
 least-top-either P Open (Closed t) one other = other
 least-top-either P Open Open one other = one
-
--- the type of an interval keeps its ends in order
-pub in-order : (i : Interval) → InOrder (span i)
-in-order i = at-most-decides (i .lower) (i .top) .0 (i .ordered)

@@ -6,7 +6,7 @@ use lib.Dec.{leb}
 use Rattle.std.specs.declared.result.Result.{Result}
 use Rattle.std.specs.declared.result.Result.the-variants.{Ok, Err}
 use Rattle.interval.specs.declared.fault.RuleFault.{RuleFault}
-use Rattle.interval.specs.declared.fault.RuleFault.the-variants.{OutOfRule}
+use Rattle.interval.specs.Faults.{out-of-rule}
 
 -- a tolerance is given in parts per million
 abbrev pub million : ℕ
@@ -16,15 +16,15 @@ abbrev pub greatest-tolerance : ℕ
 greatest-tolerance = 100000
 
 -- x × p / 1,000,000, rounded up
-abbrev pub rounded-up : ℕ → ℕ → ℕ
-rounded-up x p = (x * p + (million - 1)) / million
+abbrev pub scaled : ℕ → ℕ → ℕ
+scaled x p = (x * p + (million - 1)) / million
 
 unfoldable pub allowance : ℕ → ℕ → ℕ
-allowance x p = rounded-up x p
+allowance x p = scaled x p
 
 -- the allowance, or the refusal of a tolerance out of its range
 abbrev pub allowed : ℕ → ℕ → Result ℕ RuleFault
-allowed x p = cond (leb p greatest-tolerance) (Ok (allowance x p)) (Err (OutOfRule p))
+allowed x p = cond (leb p greatest-tolerance) (Ok (allowance x p)) (Err (out-of-rule p))
 
 -- the true time a fits the stated time x at the tolerance p: |a − x| × 1,000,000 ≤ p × x
 abbrev pub Fits : ℕ → ℕ → ℕ → Type 0

@@ -1,3 +1,4 @@
+-- The definitions that the contracts of this crate cite, one concept a file.
 pub mod Tops
 pub mod Spans
 pub mod Told
@@ -6,4 +7,4 @@ pub mod Allowances
 pub mod Shared
 pub mod Meetings
 pub mod Ends
-pub mod Worked
+pub mod Examples

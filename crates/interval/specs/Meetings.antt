@@ -6,6 +6,8 @@ use mathlib.Core.List.{List, map}
 use lib.Dec.{leb}
 use lib.ListN.{length}
 use Rattle.std.specs.shelf.Lists.{countBy}
+use Rattle.std.specs.declared.option.Option.{Option}
+use Rattle.std.specs.declared.option.Option.the-variants.{Some, None}
 use Rattle.std.specs.declared.result.Result.{Result}
 use Rattle.std.specs.declared.result.Result.the-variants.{Ok, Err}
 use Rattle.interval.specs.declared.top.Top.the-variants.{Closed}
@@ -34,7 +36,12 @@ Quorate ss q x = q ≤ holders ss x
 abbrev pub quorate : List Span → ℕ → ℕ → Bool
 quorate ss q x = leb q (holders ss x)
 
+-- no point lies in q of the listed spans
+abbrev pub NoneQuorate : List Span → ℕ → Type 0
+NoneQuorate ss q = (x : ℕ) → holders ss x < q
+
 pub record Meets (ss : List Span) (q : ℕ) (m : Span) : Type 0 where
+  pub ordered : InOrder m
   -- the meeting holds every point that lies in at least q of the spans
   pub holding : (x : ℕ) → Quorate ss q x → Holds m x
   -- and whatever span holds all of these contains the meeting
@@ -43,11 +50,11 @@ pub record Meets (ss : List Span) (q : ℕ) (m : Span) : Type 0 where
   pub openness : is-open (m .top) ≡ leb q (open-tops ss)
 
 pub record MeetingLaws : Type 0 where
-  -- both ends of a meeting lie in at least q of the spans
-  pub lower-end : (ss : List Span) (q : ℕ) (m : Span) → InOrder m → Meets ss q m → Quorate ss q (m .lower)
-  pub closed-top : (ss : List Span) (q t : ℕ) (m : Span) → InOrder m → Meets ss q m → m .top ≡ Closed t → Quorate ss q t
+  -- the lower end of a meeting, and its top if that is closed, lie in at least q of the spans
+  pub lower-end : (ss : List Span) (q : ℕ) (m : Span) → Meets ss q m → Quorate ss q (m .lower)
+  pub closed-top : (ss : List Span) (q t : ℕ) (m : Span) → Meets ss q m → m .top ≡ Closed t → Quorate ss q t
   -- spans have at most one meeting at a quorum
-  pub one : (ss : List Span) (q : ℕ) (m n : Span) → InOrder m → InOrder n → Meets ss q m → Meets ss q n → m ≡ n
+  pub one : (ss : List Span) (q : ℕ) (m n : Span) → Meets ss q m → Meets ss q n → m ≡ n
 
 -- the most spans that a meeting is asked for
 abbrev pub most-spans : ℕ
@@ -57,8 +64,13 @@ most-spans = 8
 abbrev pub in-rule : ℕ → ℕ → Bool
 in-rule n q = leb 1 q && leb q n && leb n most-spans
 
+-- what the search for a meeting finds: the meeting, or that no point lies in q of the spans
+abbrev pub Found : List Span → ℕ → Option Interval → Type 0
+Found ss q (Some m) = Meets ss q (span m)
+Found ss q None = NoneQuorate ss q
+
 -- what a meeting answers: it meets, or no time lies in q of the intervals, or their number or q is out of rule
 abbrev pub MeetingAnswer : List Interval → ℕ → Result Interval MeetingFault → Type 0
 MeetingAnswer is q (Ok m) = (in-rule (length is) q ≡ true) × Meets (spans is) q (span m)
-MeetingAnswer is q (Err Empty) = (in-rule (length is) q ≡ true) × ((x : ℕ) → holders (spans is) x < q)
+MeetingAnswer is q (Err Empty) = (in-rule (length is) q ≡ true) × NoneQuorate (spans is) q
 MeetingAnswer is q (Err (OutOfRule quorum)) = (in-rule (length is) q ≡ false) × (quorum ≡ q)

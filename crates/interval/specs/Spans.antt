@@ -7,7 +7,7 @@ use Rattle.std.specs.declared.result.Result.the-variants.{Ok, Err}
 use Rattle.interval.specs.declared.top.Top.{Top}
 use Rattle.interval.specs.declared.interval.Interval.{Interval}
 use Rattle.interval.specs.declared.fault.RuleFault.{RuleFault}
-use Rattle.interval.specs.declared.fault.RuleFault.the-variants.{OutOfRule}
+use Rattle.interval.specs.Faults.{out-of-rule}
 use Rattle.interval.specs.Tops.{AtMost, at-most}
 
 pub record Span : Type 0 where
@@ -39,4 +39,4 @@ answered (Err e) = Err e
 
 -- the span with these ends, or the refusal of a closed top below the lower end
 abbrev pub made-span : ℕ → Top → Result Span RuleFault
-made-span lower top = cond (at-most lower top) (Ok (ends lower top)) (Err (OutOfRule lower))
+made-span lower top = cond (at-most lower top) (Ok (ends lower top)) (Err (out-of-rule lower))

@@ -1,6 +1,6 @@
 // The allowance of a time: by how much a time that a clock states may be wrong at the clock's tolerance.
 ghost use Prim.Native.Nat.{_≤_};
-ghost use Rattle.interval.specs.Allowances.{AllowanceLaws, allowed, greatest-tolerance, rounded-up};
+ghost use Rattle.interval.specs.Allowances.{AllowanceLaws, allowance, allowed, greatest-tolerance, scaled};
 ghost use mathlib.Core.Path.{_≡_};
 use crate::fault::RuleFault;
 
@@ -15,17 +15,26 @@ pub fn allowance(x: u64, tolerance: u32) -> Result<u64, RuleFault>
     ensures laws { λ _. ⌜ AllowanceLaws ⌝ }
 {
     if tolerance > MAX_TOLERANCE {
-        return Err(RuleFault::OutOfRule {
+        return Err(RuleFault {
             place: tolerance as u64,
         });
     }
-    Ok(rounded_up(x, tolerance))
+    Ok(allowance_in_range(x, tolerance))
+}
+
+// The allowance at a tolerance in range, by its name; no other function is proved from its rounding.
+fn allowance_in_range(x: u64, tolerance: u32) -> u64
+    requires { ⌜ tolerance ≤ greatest-tolerance ⌝ }
+    ensures value { λ r. ⌜ r ≡ allowance x tolerance ⌝ }
+    ensures laws { λ _. ⌜ AllowanceLaws ⌝ }
+{
+    scaled(x, tolerance)
 }
 
 // x × tolerance / 1,000,000, rounded up.
-fn rounded_up(x: u64, tolerance: u32) -> u64
+fn scaled(x: u64, tolerance: u32) -> u64
     requires { ⌜ tolerance ≤ greatest-tolerance ⌝ }
-    ensures { λ r. ⌜ r ≡ rounded-up x tolerance ⌝ }
+    ensures { λ r. ⌜ r ≡ scaled x tolerance ⌝ }
 {
     let parts = x as u128 * tolerance as u128;
     ((parts + (MILLION - 1)) / MILLION) as u64

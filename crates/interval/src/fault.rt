@@ -26,8 +26,8 @@ pub trait Refusal {
 
 // A value that breaks the rule of its kind; the place is that value.
 #[derive(Clone, Copy, PartialEq, Eq, Debug)]
-pub enum RuleFault {
-    OutOfRule { place: u64 },
+pub struct RuleFault {
+    pub place: u64,
 }
 
 pub impl Refusal for RuleFault as RuleRefusal {
@@ -36,15 +36,11 @@ pub impl Refusal for RuleFault as RuleRefusal {
     ghost tells = { rule-told };
 
     fn number(&self) -> u32 {
-        match self {
-            RuleFault::OutOfRule { place: _ } => OUT_OF_RULE,
-        }
+        OUT_OF_RULE
     }
 
     fn told(&self) -> Told {
-        match self {
-            RuleFault::OutOfRule { place } => Told::one(*place),
-        }
+        Told::one(self.place)
     }
 }
 

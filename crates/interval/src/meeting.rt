@@ -3,7 +3,7 @@ ghost use mathlib.Core.Path.{_≡_};
 ghost use Prim.Native.Nat.{_<_, min};
 ghost use Rattle.std.specs.Options.{valueOr};
 ghost use Rattle.interval.specs.Ends.{LeastPoint, GreatestPoint};
-ghost use Rattle.interval.specs.Meetings.{spans, holders, quorate, open-tops, in-rule, MeetingAnswer, MeetingLaws};
+ghost use Rattle.interval.specs.Meetings.{spans, holders, quorate, open-tops, in-rule, Found, MeetingAnswer, MeetingLaws};
 use crate::fault::MeetingFault;
 use crate::interval::Interval;
 use crate::top::Top;
@@ -20,14 +20,24 @@ pub fn meeting(intervals: &[Interval], quorum: u32) -> Result<Interval, MeetingF
     if !in_rule(intervals.len(), enough) {
         return Err(MeetingFault::OutOfRule { quorum });
     }
-    let Some(lower) = least_end(intervals, enough) else {
-        return Err(MeetingFault::Empty);
-    };
-    if open_tops(intervals) >= enough {
-        return Ok(Interval::ordered(lower, Top::Open));
+    match found(intervals, enough) {
+        Some(interval) => Ok(interval),
+        None => Err(MeetingFault::Empty),
     }
-    let top = greatest_end(intervals, enough, lower);
-    Ok(Interval::ordered(lower, Top::Closed(top)))
+}
+
+// The meeting, or none where no time lies in `quorum` of the intervals.
+fn found(intervals: &[Interval], quorum: usize) -> Option<Interval>
+    requires { ⌜ 0 < quorum ⌝ }
+    ensures finds { λ r. ⌜ Found (spans (now (intervals .entry))) quorum r ⌝ }
+    ensures laws { λ _. ⌜ MeetingLaws ⌝ }
+{
+    let lower = least_end(intervals, quorum)?;
+    if open_tops(intervals) >= quorum {
+        return Some(Interval::ordered(lower, Top::Open));
+    }
+    let top = greatest_end(intervals, quorum, lower);
+    Some(Interval::ordered(lower, Top::Closed(top)))
 }
 
 // Whether a meeting may be asked for of so many intervals at this quorum.

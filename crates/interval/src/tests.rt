@@ -36,7 +36,7 @@ fn a_point_is_an_interval() -> Result<(), Fail> {
 
 #[test]
 fn ends_out_of_order_are_refused() -> Result<(), Fail> {
-    let refused = RuleFault::OutOfRule { place: 5 };
+    let refused = RuleFault { place: 5 };
     check_eq(closed(5, 4), Err(refused))?;
     check_eq(refused.number(), 19)?;
     check_eq(refused.told().as_slice(), &[5])
@@ -107,7 +107,7 @@ fn allowances_round_up() -> Result<(), Fail> {
     check_eq(allowance(1_000_001, 0)?, 0)?;
     check_eq(
         allowance(7, MAX_TOLERANCE + 1),
-        Err(RuleFault::OutOfRule { place: 100_001 }),
+        Err(RuleFault { place: 100_001 }),
     )
 }
 
@@ -118,5 +118,5 @@ fn the_largest_time_wraps_nothing() -> Result<(), Fail> {
     let last = closed(most, most)?;
     check_eq(meeting(&[open(most)?, closed(0, most)?], 2)?, last)?;
     check_eq(last.top().closed_time(), Some(most))?;
-    check_eq(closed(most, 0), Err(RuleFault::OutOfRule { place: most }))
+    check_eq(closed(most, 0), Err(RuleFault { place: most }))
 }

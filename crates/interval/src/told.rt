@@ -3,12 +3,12 @@ ghost use Prim.Native.Nat.{_≤_};
 
 mod methods;
 
-// The most numbers that any refusal tells.
-pub const MOST_TOLD: usize = 3;
+// Room for the numbers of one refusal.
+const ROOM: usize = 3;
 
 #[derive(Clone, Copy)]
 pub struct Told {
-    numbers: [u64; MOST_TOLD],
+    numbers: [u64; ROOM],
     count: usize,
     ghost few: { count ≤ 3 },
 }

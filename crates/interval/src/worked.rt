@@ -1,7 +1,7 @@
 // Worked examples: what the definitions give for them, and that the functions answer just that.
 ghost use mathlib.Core.Path.{_≡_};
 ghost use Rattle.interval.specs.Spans.{answered, ends};
-ghost use Rattle.interval.specs.Worked.{WorkedAllowance, WorkedMeeting};
+ghost use Rattle.interval.specs.Examples.{WorkedAllowance, WorkedMeeting};
 ghost use Rattle.interval.specs.declared.top.Top.the-variants.{Closed};
 ghost use Rattle.std.specs.declared.result.Result.the-variants.{Ok};
 use crate::allowance::allowance;

@@ -16,7 +16,7 @@ impl Interval {
     {
         if let Top::Closed(t) = top {
             if t < lower {
-                return Err(RuleFault::OutOfRule { place: lower });
+                return Err(RuleFault { place: lower });
             }
         }
         Ok(Interval { lower, top })

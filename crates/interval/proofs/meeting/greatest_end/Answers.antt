@@ -11,7 +11,7 @@ use Rattle.interval.proofs.meeting.greatest_end.Needs as need
 use Rattle.interval.proofs.meeting.greatest_end.Needs.{in-Some·then-quorate, in-Some·else-quorate, in-rest}
 
 pub loop-interval-holds : need.loop-interval-holds
-loop-interval-holds c = record { above = le-refl _; quorate = λ enough. enough; greatest = tt }
+loop-interval-holds c = record { above = le-refl _; enough = λ enough. enough; greatest = tt }
 
 pub loop-interval-again : need.loop-interval-again
 loop-interval-again c =

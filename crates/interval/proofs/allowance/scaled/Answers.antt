@@ -1,7 +1,7 @@
--- `rounded_up`: what it answers fits 64 bits.
+-- `scaled`: what it answers fits 64 bits.
 use native.Mathlib.Omega.{arith}
 use native.Mathlib.Nat.{mul-le-mul-left}
-use Rattle.interval.proofs.allowance.rounded_up.Needs as need
+use Rattle.interval.proofs.allowance.scaled.Needs as need
 
 -- the allowance does not pass the time, so it fits where the time does
 pub cast-result : need.cast-result
