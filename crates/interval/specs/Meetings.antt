@@ -6,8 +6,6 @@ use mathlib.Core.List.{List, map}
 use lib.Dec.{leb}
 use lib.ListN.{length}
 use Rattle.std.specs.shelf.Lists.{countBy}
-use Rattle.std.specs.declared.option.Option.{Option}
-use Rattle.std.specs.declared.option.Option.the-variants.{Some, None}
 use Rattle.std.specs.declared.result.Result.{Result}
 use Rattle.std.specs.declared.result.Result.the-variants.{Ok, Err}
 use Rattle.interval.specs.declared.top.Top.the-variants.{Closed}
@@ -63,11 +61,6 @@ most-spans = 8
 -- n is 1 to 8, and the quorum q is 1 to n
 abbrev pub in-rule : ℕ → ℕ → Bool
 in-rule n q = leb 1 q && leb q n && leb n most-spans
-
--- what the search for a meeting finds: the meeting, or that no point lies in q of the spans
-abbrev pub Found : List Span → ℕ → Option Interval → Type 0
-Found ss q (Some m) = Meets ss q (span m)
-Found ss q None = NoneQuorate ss q
 
 -- what a meeting answers: it meets, or no time lies in q of the intervals, or their number or q is out of rule
 abbrev pub MeetingAnswer : List Interval → ℕ → Result Interval MeetingFault → Type 0

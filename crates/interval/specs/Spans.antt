@@ -14,9 +14,11 @@ pub record Span : Type 0 where
   pub lower : ℕ
   pub top : Top
 
+-- the span with these ends
 abbrev pub ends : ℕ → Top → Span
 ends lower top = record { lower = lower; top = top }
 
+-- the ends of an interval, without its invariant
 abbrev pub span : Interval → Span
 span i = ends (i .lower) (i .top)
 

@@ -22,7 +22,7 @@ pub fn allowance(x: u64, tolerance: u32) -> Result<u64, RuleFault>
     Ok(allowance_in_range(x, tolerance))
 }
 
-// The allowance at a tolerance in range, by its name; no other function is proved from its rounding.
+// The allowance at a tolerance in range: what is computed is what the definition calls the allowance.
 fn allowance_in_range(x: u64, tolerance: u32) -> u64
     requires { ⌜ tolerance ≤ greatest-tolerance ⌝ }
     ensures value { λ r. ⌜ r ≡ allowance x tolerance ⌝ }

@@ -2,8 +2,8 @@
 ghost use mathlib.Core.Path.{_≡_};
 ghost use Prim.Native.Nat.{_<_, min};
 ghost use Rattle.std.specs.Options.{valueOr};
-ghost use Rattle.interval.specs.Ends.{LeastPoint, GreatestPoint};
-ghost use Rattle.interval.specs.Meetings.{spans, holders, quorate, open-tops, in-rule, Found, MeetingAnswer, MeetingLaws};
+ghost use Rattle.interval.specs.Ends.{LeastPoint, GreatestPoint, Found};
+ghost use Rattle.interval.specs.Meetings.{spans, holders, quorate, open-tops, in-rule, MeetingAnswer, MeetingLaws};
 use crate::fault::MeetingFault;
 use crate::interval::Interval;
 use crate::top::Top;

@@ -1,7 +1,8 @@
 -- `found`: the two ends make the meeting, and where there is no least end no time lies in `quorum` of the intervals.
 use mathlib.Core.Path.{sym, subst}
 use native.Mathlib.Omega.{arith}
-use Rattle.interval.specs.Meetings.{spans, Found, Meets}
+use Rattle.interval.specs.Ends.{Found}
+use Rattle.interval.specs.Meetings.{spans, Meets}
 use Rattle.interval.proofs.Meetings.{meets-open, meets-closed, meeting-laws}
 use Rattle.interval.proofs.meeting.found.Needs as need
 
