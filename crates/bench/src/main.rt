@@ -1,4 +1,6 @@
 // Runs the bench cases and prints what the library answers to each.
+#![tactic(auto)]
+
 mod allowances;
 mod answer;
 mod clocks;

@@ -42,25 +42,25 @@ fn each_fault_has_its_number_and_tells(rt: HostRuntime) {
     let path = Path::start().under(Place::Second);
     let missing = GaugeFault::Missing { channel: 7, path };
     assert_eq!(rt; missing.number(), 1);
-    assert_eq!(rt; missing.told().as_slice(), &[7, 0, 2]);
+    assert_eq!(rt; missing.told().as_slice(), [7, 0, 2].as_slice());
     let off_scale = GaugeFault::OffScale {
         channel: 7,
         code: 4096,
         path,
     };
     assert_eq!(rt; off_scale.number(), 2);
-    assert_eq!(rt; off_scale.told().as_slice(), &[7, 4096, 2]);
+    assert_eq!(rt; off_scale.told().as_slice(), [7, 4096, 2].as_slice());
     let impossible = GaugeFault::Impossible {
         channel: 7,
         code: 4095,
         path,
     };
     assert_eq!(rt; impossible.number(), 3);
-    assert_eq!(rt; impossible.told().as_slice(), &[7, 4095, 2]);
+    assert_eq!(rt; impossible.told().as_slice(), [7, 4095, 2].as_slice());
     let nothing_shared = GaugeFault::NothingShared { path };
     assert_eq!(rt; nothing_shared.number(), 4);
-    assert_eq!(rt; nothing_shared.told().as_slice(), &[2]);
+    assert_eq!(rt; nothing_shared.told().as_slice(), [2].as_slice());
     let no_meeting = GaugeFault::NoMeeting { lost: 3, path };
     assert_eq!(rt; no_meeting.number(), 5);
-    assert_eq!(rt; no_meeting.told().as_slice(), &[3, 2]);
+    assert_eq!(rt; no_meeting.told().as_slice(), [3, 2].as_slice());
 }

@@ -29,7 +29,7 @@ fn ends_out_of_order_are_refused(rt: HostRuntime) {
     let refused = RuleFault { place: 5 };
     assert_eq!(rt; closed(5, 4), Err(refused));
     assert_eq!(rt; refused.number(), 19);
-    assert_eq!(rt; refused.told().as_slice(), &[5]);
+    assert_eq!(rt; refused.told().as_slice(), [5].as_slice());
 }
 
 #[test]
@@ -83,7 +83,7 @@ fn number_and_quorum_have_rules(rt: HostRuntime) -> Result<(), Fail> {
     let refused = MeetingFault::OutOfRule { quorum: 3 };
     assert_eq!(rt; meeting(&[one; 2], 3), Err(refused));
     assert_eq!(rt; refused.number(), 19);
-    assert_eq!(rt; refused.told().as_slice(), &[3]);
+    assert_eq!(rt; refused.told().as_slice(), [3].as_slice());
     Ok(())
 }
 
@@ -93,7 +93,7 @@ fn intervals_apart_do_not_meet(rt: HostRuntime) -> Result<(), Fail> {
     let refused = MeetingFault::Empty;
     assert_eq!(rt; meeting(&apart, 2), Err(refused));
     assert_eq!(rt; refused.number(), 5);
-    assert_eq!(rt; refused.told().as_slice(), &[0, 0]);
+    assert_eq!(rt; refused.told().as_slice(), [0, 0].as_slice());
     assert_eq!(rt; apart[0].shared(&apart[1]), None);
     assert_eq!(rt; closed(0, 3)?.shared(&apart[1]), Some(closed(3, 3)?));
     Ok(())

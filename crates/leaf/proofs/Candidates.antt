@@ -1,6 +1,6 @@
 -- The widest closed answer of a tier is found among few codes: of those above all that the tail admits, the lowest that
 -- a cell admits. Any other code whose answer begins with this cell gets an answer within that one's.
-use Rattle.std.proofs.Common.{◌≡◌, ℕ, suc, ◌+◌, ◌-◌, ◌<◌, ◌≤◌, max, leb, ◌⊎◌, List, [], ◌∷◌, Some, None, Option, refl, ap, subst, inl, inr, ⊎_elim, le_trans, le_refl, arith}
+use Rattle.std.proofs.Common.{◌≡◌, ℕ, suc, ◌+◌, ◌<◌, ◌≤◌, max, leb, ◌⊎◌, List, [], ◌∷◌, Some, None, Option, refl, ap, subst, inl, inr, ⊎_elim, le_trans, le_refl, arith}
 use Rattle.std.specs.List.{ContainsAt as Has, AllByRecursion as All}
 use Rattle.std.proofs.ByRecursion.{all-has, all_kept_by, All-push, All-weaker, has_push}
 use Rattle.std.proofs.lemmas.Bool.{and_right, cases_lt, lt-leb}

@@ -1,4 +1,6 @@
 // The single gauges: the remanence tier, which reads a drained capacitor, and the counter.
+#![tactic(auto)]
+
 pub mod breakpoint;
 mod cell;
 pub mod counter;

@@ -3,5 +3,5 @@ use Rattle.std.proofs.Common.{rules}
 use Rattle.interval.proofs.Allowances.{allowance_laws}
 use Rattle.interval.proofs.allowance.allowance.Goals as goal
 
-pub returns-then-tolerance-gt-MAX-TOLERANCE : goal.returns-then-tolerance-gt-MAX-TOLERANCE
-returns-then-tolerance-gt-MAX-TOLERANCE c = record { answers = search rules; laws = allowance_laws }
+pub returns-then-tolerance-gt-MAX_TOLERANCE : goal.returns-then-tolerance-gt-MAX_TOLERANCE
+returns-then-tolerance-gt-MAX_TOLERANCE c = record { answers = search rules; laws = allowance_laws }

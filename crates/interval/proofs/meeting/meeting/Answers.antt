@@ -3,5 +3,5 @@ use Rattle.std.proofs.Common.{rules}
 use Rattle.interval.proofs.Meetings.{meeting_laws}
 use Rattle.interval.proofs.meeting.meeting.Goals as goal
 
-pub returns-then-not-in-rule : goal.returns-then-not-in-rule
-returns-then-not-in-rule c = record { answers = search rules; laws = meeting_laws }
+pub returns-then-not-in_rule : goal.returns-then-not-in_rule
+returns-then-not-in_rule c = record { answers = search rules; laws = meeting_laws }

@@ -9,8 +9,8 @@ use Rattle.leaf.proofs.Examples.{worked_tier}
 use Rattle.leaf.proofs.SameTiers.{same_tier}
 use Rattle.leaf.proofs.worked.filled.Goals as goal
 
-pub returns-in-err-tier : goal.returns-in-err-tier
-returns-in-err-tier c = record { defined = worked_tier; holds = IfOk-from_err _ _ c.from-residual.ensures.0 }
+pub returns-in_err-tier : goal.returns-in_err-tier
+returns-in_err-tier c = record { defined = worked_tier; holds = IfOk-from_err _ _ c.from_residual.ensures.0 }
 
 -- the same breakpoint added to the same breakpoints
 same_added : (bs cs : List Breakpoint) (b c : Breakpoint) → bs ≡ cs → b ≡ c → added bs b ≡ added cs c
@@ -18,7 +18,7 @@ same_added bs cs b c same this = ap (λ bs. added bs b) same ∙ ap (added cs) t
 
 pub returns : goal.returns
 returns c =
-    let none = c.in-ok-tier.ensures.makes in
+    let none = c.in_ok-tier.ensures.makes in
     let one = c.add.ensures.becomes ∙ same_added _ _ _ _ none.1 c.breakpoint.ensures in
     let two = c.add-2.ensures.becomes ∙ same_added _ _ _ _ one c.breakpoint-2.ensures in
     let three = c.add-3.ensures.becomes ∙ same_added _ _ _ _ two c.breakpoint-3.ensures in

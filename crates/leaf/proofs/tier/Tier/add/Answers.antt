@@ -4,7 +4,7 @@ use Rattle.leaf.specs.TierData.{points}
 use Rattle.leaf.specs.BreakpointsLemmas.{room_for}
 use Rattle.leaf.proofs.tier.Tier.add.Goals as goal
 
-pub push-reserved-requires : goal.push-reserved-requires
-push-reserved-requires c =
+pub push_reserved-requires : goal.push_reserved-requires
+push_reserved-requires c =
     let tier = c.args.self.now in
-    omega (arith, tier.breakpoints.ok, tier.room, room_for (points tier) c.args.breakpoint (sym c.if-not-may-add.ensures))
+    omega (arith, tier.breakpoints.ok, tier.room, room_for (points tier) c.args.breakpoint (sym c.if-not-may_add.ensures))

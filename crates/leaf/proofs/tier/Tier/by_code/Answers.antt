@@ -10,11 +10,11 @@ use Rattle.leaf.proofs.tier.Tier.by_code.Goals as goal
 pub spanning-requires : goal.spanning-requires
 spanning-requires c =
     let tier = c.args.self.now in
-    let found = spanned_found c.args.code (cells (points tier)) _ _ _ _ c.in-ok-first.ensures c.last-admitting-last.ensures c.cell-start.ensures c.cell-end.ensures in
+    let found = spanned_found c.args.code (cells (points tier)) _ _ _ _ c.in_ok-first.ensures c.last_admitting-last.ensures c.cell-start.ensures c.cell-end.ensures in
     found_in_order (points tier) (is_ruled (points tier) tier.ruled) _ _ _ found
 
 pub returns : goal.returns
 returns c =
     let cs = cells (points c.args.self.now) in
     ap Some c.spanning.ensures
-    ∙ sym (spanned_found c.args.code cs _ _ _ _ c.in-ok-first.ensures c.last-admitting-last.ensures c.cell-start.ensures c.cell-end.ensures)
+    ∙ sym (spanned_found c.args.code cs _ _ _ _ c.in_ok-first.ensures c.last_admitting-last.ensures c.cell-start.ensures c.cell-end.ensures)

@@ -5,4 +5,4 @@ use Rattle.leaf.specs.Lasts.{last_of}
 use Rattle.leaf.proofs.tier.Tier.last_time_above_tail.Given as goal
 
 abbrev pub invariant-loop-breakpoint : goal.invariant-loop-breakpoint
-invariant-loop-breakpoint l = l.time ≡ last_of 0 (times (filter (λ b. ltb l.tail-highest b.lowest) (take l.breakpoint-index l.breakpoint-items)))
+invariant-loop-breakpoint l = l.time ≡ last_of 0 (times (filter (λ b. ltb l.tail_highest b.lowest) (take l.breakpoint-index l.breakpoint-items)))

@@ -4,8 +4,8 @@ use Rattle.leaf.specs.TierData.{points}
 use Rattle.leaf.specs.BreakpointsLemmas.{full_refuses, next_in_rule}
 use Rattle.leaf.proofs.tier.Tier.may_add.Goals as goal
 
-pub returns-then-len-ge-MOST-BREAKPOINTS : goal.returns-then-len-ge-MOST-BREAKPOINTS
-returns-then-len-ge-MOST-BREAKPOINTS c = full_refuses (points c.args.self.now) _ (omega (arith, c.args.self.now.breakpoints.ok))
+pub returns-then-len-ge-MOST_BREAKPOINTS : goal.returns-then-len-ge-MOST_BREAKPOINTS
+returns-then-len-ge-MOST_BREAKPOINTS c = full_refuses (points c.args.self.now) _ (omega (arith, c.args.self.now.breakpoints.ok))
 
 pub returns-in-Some : goal.returns-in-Some
 returns-in-Some c =
