@@ -1,7 +1,7 @@
 -- The digits of a path's number are the places that were put in front, one after the other.
 use Rattle.std.proofs.Common.{◌≡◌, ℕ, zero, suc, ◌+◌, ◌*◌, ◌^◌, ◌<◌, ◌≤◌, min, ltb, List, [], ◌∷◌, length, sym, refl, ap, ◌∙◌, ⊎_elim, le_trans, mul-le-mul_right, pow-suc, add-one, arith, lit<}
 use native.Mathlib.Nat.{pow-le-pow_right}
-use Rattle.std.specs.List.{AllByRecursion as All}
+use Rattle.std.specs.List.{AllByRecursion}
 use Rattle.std.proofs.lemmas.Bool.{cases_lt, le-leb, lt-leb, lt-ltb, le-ltb, cond-true, cond-false}
 use Rattle.gauge.specs.Paths.{most_digits, digits_below, digits, in_front, places_number, IsPlace, PathLaws}
 
@@ -44,19 +44,19 @@ short_number n few =
     (cases_lt n 268435456)
 
 -- places make a number below the power of their count
-places_short : (ps : List ℕ) → All IsPlace ps → places_number ps < 4 ^ length ps
+places_short : (ps : List ℕ) → AllByRecursion IsPlace ps → places_number ps < 4 ^ length ps
 places_short [] places = lit< tt
 places_short (p ∷ ps) ((_, small), places) =
     rw pow-suc (omega (arith, mul-le-mul_right (4 ^ length ps) small, places_short ps places))
 
 -- and it reaches every power before
-places_reach : (ps : List ℕ) → All IsPlace ps → (j : ℕ) → j < length ps → 4 ^ j ≤ places_number ps
+places_reach : (ps : List ℕ) → AllByRecursion IsPlace ps → (j : ℕ) → j < length ps → 4 ^ j ≤ places_number ps
 places_reach [] places j lt = absurd (omega arith)
 places_reach (p ∷ ps) ((some, _), places) j lt =
     omega (arith, powers_rise j (length ps) (omega arith), mul-le-mul_right (4 ^ length ps) some)
 
 -- so it has as many digits as there are places
-places_digits : (ps : List ℕ) → All IsPlace ps → length ps ≤ most_digits → digits (places_number ps) ≡ length ps
+places_digits : (ps : List ℕ) → AllByRecursion IsPlace ps → length ps ≤ most_digits → digits (places_number ps) ≡ length ps
 places_digits ps places few =
     omega (arith, counted (length ps) (places_number ps) (places_reach ps places) (places_short ps places) 15)
 

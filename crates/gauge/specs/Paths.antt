@@ -1,6 +1,6 @@
 -- The path of a fault: the places of the parts on the way down, the outermost first, as the base-4 digits of one number.
 use Rattle.std.specs.Prelude.{◌≡◌, ℕ, zero, suc, ◌+◌, ◌*◌, ◌^◌, ◌<◌, ◌≤◌, cond, List, [], ◌∷◌, length, nat_le, nat_lt}
-use Rattle.std.specs.List.{AllByRecursion as All}
+use Rattle.std.specs.List.{AllByRecursion}
 use Rattle.gauge.specs.declared.path.Path.{Path}
 use Rattle.gauge.specs.declared.path.Place.{Place}
 use Rattle.gauge.specs.declared.path.Place.TheVariants.{First, Second, Third}
@@ -50,6 +50,6 @@ IsPlace p = (1 ≤ p) × (p ≤ 3)
 -- what the numbers mean: a path is a list of at most fifteen places
 pub record PathLaws : Type 0 where
   -- with fewer than fifteen places, one more stands in front of them
-  pub grows : (p : ℕ) (ps : List ℕ) → All IsPlace ps → length ps < most_digits → in_front p (places_number ps) ≡ places_number (p ∷ ps)
+  pub grows : (p : ℕ) (ps : List ℕ) → AllByRecursion IsPlace ps → length ps < most_digits → in_front p (places_number ps) ≡ places_number (p ∷ ps)
   -- with fifteen it stays
-  pub stays : (p : ℕ) (ps : List ℕ) → All IsPlace ps → length ps ≡ most_digits → in_front p (places_number ps) ≡ places_number ps
+  pub stays : (p : ℕ) (ps : List ℕ) → AllByRecursion IsPlace ps → length ps ≡ most_digits → in_front p (places_number ps) ≡ places_number ps

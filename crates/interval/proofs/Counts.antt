@@ -1,6 +1,6 @@
 -- Counts of what passes a test: one element more, a weaker test, and a loop that counts the intervals whose spans pass.
 use Rattle.std.proofs.Common.{◌≡◌, ℕ, ◌+◌, ◌<◌, ◌≤◌, Bool, true, false, cond, List, [], ◌∷◌, ◌++◌, length, get_or, take, count_by, sym, refl, ap, ◌∙◌, arith}
-use Rattle.std.specs.List.{AllByRecursion as All}
+use Rattle.std.specs.List.{AllByRecursion}
 use Rattle.std.proofs.lemmas.List.{map_more, take_all}
 use Rattle.std.proofs.lemmas.List.Sums.{sum_by-cons, sum_by_push}
 use Rattle.interval.specs.declared.interval.Interval.{Interval}
@@ -16,7 +16,7 @@ pub count_no : {X : Type 0} (p : X → Bool) (x : X) (xs : List X) → p x ≡ f
 count_no p x xs fails = omega (arith, count_cons p x xs, ap (λ (b : Bool). cond {A = ℕ} b 1 0) fails)
 
 -- a test that passes wherever another does counts no fewer
-pub counts_no_fewer : {X : Type 0} (p r : X → Bool) (xs : List X) → All (λ x. p x ≡ true → r x ≡ true) xs → count_by p xs ≤ count_by r xs
+pub counts_no_fewer : {X : Type 0} (p r : X → Bool) (xs : List X) → AllByRecursion (λ x. p x ≡ true → r x ≡ true) xs → count_by p xs ≤ count_by r xs
 counts_no_fewer p r [] all = omega arith
 counts_no_fewer p r (x ∷ xs) (here, rest) =
     let step : cond (p x) 1 0 ≤ cond (r x) 1 0 = one (p x) (r x) here in

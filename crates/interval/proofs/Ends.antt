@@ -1,7 +1,7 @@
 -- Whatever lies in at least q of the spans has a lower end at or below it, and a closed top at or above it unless
 -- q tops are open, that lie in at least q of them too. So the search need try no other times.
 use Rattle.std.proofs.Common.{◌≡◌, ℕ, ◌+◌, ◌<◌, ◌≤◌, min, max, true, false, List, [], ◌∷◌, ◌++◌, length, get_or, take, Some, None, Option, unwrap_or, sym, refl, ap, ◌∙◌, subst, ⊎_elim, le_trans, le_refl, arith}
-use Rattle.std.specs.List.{AllByRecursion as All}
+use Rattle.std.specs.List.{AllByRecursion}
 use Rattle.std.proofs.ByRecursion.{All-weaker, All-push}
 use Rattle.std.proofs.lemmas.Bool.{cases_lt, leb-false, leb-true}
 use Rattle.interval.specs.declared.interval.Interval.{Interval}
@@ -34,8 +34,8 @@ module _ (ss : List Span) (q : ℕ) where
 
   -- what the search among the lower ends keeps, once it has seen some of the spans
   abbrev pub LeastOf : List Span → Option ℕ → Type 0
-  LeastOf seen (Some b) = Quorate ss q b × All (λ s. Quorate ss q s.lower → b ≤ s.lower) seen
-  LeastOf seen None = All (λ s. Quorate ss q s.lower → ⊥) seen
+  LeastOf seen (Some b) = Quorate ss q b × AllByRecursion (λ s. Quorate ss q s.lower → b ≤ s.lower) seen
+  LeastOf seen None = AllByRecursion (λ s. Quorate ss q s.lower → ⊥) seen
 
   -- after the last span it is the least quorate point
   pub least_end : 0 < q → (r : Option ℕ) → LeastOf ss r → LeastPoint ss q r
@@ -67,7 +67,7 @@ module _ (ss : List Span) (q : ℕ) where
   pub record GreatestOf (floor : ℕ) (seen : List Span) (b : ℕ) : Type 0 where
     pub above : floor ≤ b
     pub enough : Quorate ss q floor → Quorate ss q b
-    pub greatest : All (λ s. TopBy b s.top) seen
+    pub greatest : AllByRecursion (λ s. TopBy b s.top) seen
 
   -- above every quorate point lies a quorate closed top, unless q tops are open
   top_quorate : (x b : ℕ) → open_tops ss < q → Quorate ss q x → (t : Top) → nearest_top x ss ≡ t → AtMost x t → TopBy b t → x ≤ b
@@ -77,7 +77,7 @@ module _ (ss : List Span) (q : ℕ) where
       le_trans below (bound t refl (le_trans enough (counts_no_fewer (λ s. holds s x) (λ s. holds s t) ss held)))
   top_quorate x b few enough Open is below bound =
       let tops = no_top_below x Open ss (λ l le. subst (AtMost l) (sym is) le) in
-      let opens : All (λ s. holds s x ≡ true → is_open s.top ≡ true) ss = All-weaker _ _ (λ s top h. open_above s.top (λ l. top h l tt)) ss tops in
+      let opens : AllByRecursion (λ s. holds s x ≡ true → is_open s.top ≡ true) ss = All-weaker _ _ (λ s top h. open_above s.top (λ l. top h l tt)) ss tops in
       absurd (omega (arith, counts_no_fewer (λ s. holds s x) (λ s. is_open s.top) ss opens))
 
   -- after the last span it is the greatest quorate point, unless q tops are open

@@ -1,6 +1,6 @@
 -- The two ends found by the search make the meeting; the ends of any meeting, and that there is but one.
 use Rattle.std.proofs.Common.{◌≡◌, ℕ, ◌+◌, ◌-◌, ◌<◌, ◌≤◌, max, true, List, [], ◌∷◌, length, Some, Ok, Err, Result, sym, refl, ap, ◌∙◌, subst, ⊎_elim, le_trans, le_refl, arith}
-use Rattle.std.specs.List.{AllByRecursion as All}
+use Rattle.std.specs.List.{AllByRecursion}
 use Rattle.std.proofs.lemmas.Bool.{le-leb, lt-leb, cases_lt, true≢false, false≢true}
 use Rattle.interval.specs.declared.top.Top.{Top}
 use Rattle.interval.specs.declared.top.Top.TheVariants.{Closed, Open}
@@ -20,7 +20,7 @@ beyond [] = 0
 beyond (s ∷ ss) = max s.lower (beyond ss)
 
 -- from there on every span with an open top holds
-open_holds : (x : ℕ) (ss : List Span) → beyond ss ≤ x → All (λ s. is_open s.top ≡ true → holds s x ≡ true) ss
+open_holds : (x : ℕ) (ss : List Span) → beyond ss ≤ x → AllByRecursion (λ s. is_open s.top ≡ true → holds s x ≡ true) ss
 unfolding beyond
 open_holds x [] far = tt
 open_holds x (s ∷ ss) far = (λ opened. (holds_decides s x).1 (omega arith, never s.top opened), open_holds x ss (omega arith))

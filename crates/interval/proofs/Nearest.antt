@@ -1,6 +1,6 @@
 -- The nearest ends around a time x: the greatest lower end and the lowest top among the spans that hold x.
 use Rattle.std.proofs.Common.{◌≡◌, ℕ, ◌<◌, ◌≤◌, max, Bool, true, cond, List, [], ◌∷◌, ap, ⊎_elim, arith}
-use Rattle.std.specs.List.{AllByRecursion as All}
+use Rattle.std.specs.List.{AllByRecursion}
 use Rattle.std.proofs.lemmas.Bool.{cond_both, cases_Bool}
 use Rattle.interval.specs.declared.top.Top.{Top}
 use Rattle.interval.specs.declared.top.Top.TheVariants.{Open}
@@ -33,7 +33,7 @@ module _ (x : ℕ) where
       (λ _. lower_below ss)
 
   -- each span that holds x holds every time from the nearest lower end to x
-  pub holds_from_lower : (l : ℕ) (ss : List Span) → nearest_lower ss ≤ l → l ≤ x → All (λ s. holds s x ≡ true → holds s l ≡ true) ss
+  pub holds_from_lower : (l : ℕ) (ss : List Span) → nearest_lower ss ≤ l → l ≤ x → AllByRecursion (λ s. holds s x ≡ true → holds s l ≡ true) ss
   unfolding nearest_lower
   holds_from_lower l [] from to = tt
   holds_from_lower l (s ∷ ss) from to = (
@@ -55,7 +55,7 @@ module _ (x : ℕ) where
       (cases_Bool (holds s x))
 
   -- it is the lower end of one of the spans, if one holds x
-  pub lower_of_one : (P : ℕ → Type 0) (ss : List Span) → 0 < holders ss x → All (λ s. P s.lower) ss → P (nearest_lower ss)
+  pub lower_of_one : (P : ℕ → Type 0) (ss : List Span) → 0 < holders ss x → AllByRecursion (λ s. P s.lower) ss → P (nearest_lower ss)
   unfolding nearest_lower
   lower_of_one P [] some all = absurd (omega arith)
   lower_of_one P (s ∷ ss) some (here, rest) =
@@ -73,7 +73,7 @@ module _ (x : ℕ) where
       (λ _. top_above ss)
 
   -- no span that holds x has its top below the nearest one
-  pub no_top_below : (t : Top) (ss : List Span) → ((l : ℕ) → AtMost l t → AtMost l (nearest_top ss)) → All (λ s. holds s x ≡ true → (l : ℕ) → AtMost l t → AtMost l s.top) ss
+  pub no_top_below : (t : Top) (ss : List Span) → ((l : ℕ) → AtMost l t → AtMost l (nearest_top ss)) → AllByRecursion (λ s. holds s x ≡ true → (l : ℕ) → AtMost l t → AtMost l s.top) ss
   unfolding nearest_top
   no_top_below t [] below = tt
   no_top_below t (s ∷ ss) below = (
@@ -82,7 +82,7 @@ module _ (x : ℕ) where
   )
 
   -- it is open, or the top of one of the spans
-  pub top_of_one : (P : Top → Type 0) (ss : List Span) → P Open → All (λ s. P s.top) ss → P (nearest_top ss)
+  pub top_of_one : (P : Top → Type 0) (ss : List Span) → P Open → AllByRecursion (λ s. P s.top) ss → P (nearest_top ss)
   unfolding nearest_top
   top_of_one P [] none all = none
   top_of_one P (s ∷ ss) none (here, rest) =

@@ -1,7 +1,7 @@
 -- The widest closed answer of a tier is found among few codes: of those above all that the tail admits, the lowest that
 -- a cell admits. Any other code whose answer begins with this cell gets an answer within that one's.
 use Rattle.std.proofs.Common.{◌≡◌, ℕ, suc, ◌+◌, ◌<◌, ◌≤◌, max, leb, ◌⊎◌, List, [], ◌∷◌, Some, None, Option, refl, ap, subst, inl, inr, ⊎_elim, le_trans, le_refl, arith}
-use Rattle.std.specs.List.{ContainsAt as Has, AllByRecursion as All}
+use Rattle.std.specs.List.{ContainsAt, AllByRecursion}
 use Rattle.std.proofs.ByRecursion.{all-has, all_kept_by, All-push, All-weaker, has_push}
 use Rattle.std.proofs.lemmas.Bool.{and_right, cases_lt, lt-leb}
 use Rattle.interval.specs.declared.top.Top.{Top}
@@ -53,7 +53,7 @@ module _ (bs : List Breakpoint) (ruled : Ruled bs) where
   candidate low = max low (last_highest bs + 1)
 
   -- the tail is one of the cells
-  tail_among : Has (cells bs) (tail bs)
+  tail_among : ContainsAt (cells bs) (tail bs)
   tail_among = has_push (closed_cells bs) (tail bs)
 
   -- its highest code is on the scale
@@ -77,15 +77,15 @@ module _ (bs : List Breakpoint) (ruled : Ruled bs) where
       let first_admits = passing.0 in
       wider c e (by_code bs u)
       (spans_admitting bs ruled u c among.0 (omega arith, omega arith))
-      (spans_admitting bs ruled u e (last_all (Has (cells bs)) c cs among.0 among.1) (omega arith, omega arith))
+      (spans_admitting bs ruled u e (last_all (ContainsAt (cells bs)) c cs among.0 among.1) (omega arith, omega arith))
       (closed_above bs u (omega arith))
 
   -- so where each cell's candidate has been tried, no code has a wider answer
-  tried_all : (v w : ℕ) → last_highest bs < v → All (λ c. (c.highest ≤ last_highest bs) ⊎ (width_at (candidate c.lowest) ≤ w)) (cells bs) → (ks : List Cell) → admitting v (cells bs) ≡ ks → closed_width (spanned ks) ≤ w
+  tried_all : (v w : ℕ) → last_highest bs < v → AllByRecursion (λ c. (c.highest ≤ last_highest bs) ⊎ (width_at (candidate c.lowest) ≤ w)) (cells bs) → (ks : List Cell) → admitting v (cells bs) ≡ ks → closed_width (spanned ks) ≤ w
   tried_all v w high tried [] same = omega arith
   tried_all v w high tried (c ∷ cs) same =
       let passing = (are_admitting bs ruled v (c ∷ cs) same).admitted.0 in
-      let kept = subst (All (λ e. (e.highest ≤ last_highest bs) ⊎ (width_at (candidate e.lowest) ≤ w))) same (all_kept_by (admits v) _ (cells bs) tried) in
+      let kept = subst (AllByRecursion (λ e. (e.highest ≤ last_highest bs) ⊎ (width_at (candidate e.lowest) ≤ w))) same (all_kept_by (admits v) _ (cells bs) tried) in
       ⊎_elim (λ low. absurd (omega arith)) (λ here. le_trans (from_cell v c cs high same) here) kept.0
 
   -- each answer is at most as wide as the width says
@@ -99,7 +99,7 @@ module _ (bs : List Breakpoint) (ruled : Ruled bs) where
       (cases_lt top_code v)
 
   -- and where the candidates of the breakpoints have been tried, nothing is wider
-  pub width_under : (w : ℕ) → All (λ b. width_at (candidate b.lowest) ≤ w) bs → tier_width bs ≤ w
+  pub width_under : (w : ℕ) → AllByRecursion (λ b. width_at (candidate b.lowest) ≤ w) bs → tier_width bs ≤ w
   width_under w tried =
       greatest_under (suc top_code) width_at w
       (λ v _.
@@ -108,6 +108,6 @@ module _ (bs : List Breakpoint) (ruled : Ruled bs) where
       (λ low. omega (arith, open_below v low))
       (cases_lt (last_highest bs) v))
     where
-      closed_tried : (cs : List Breakpoint) → All (λ b. width_at (candidate b.lowest) ≤ w) cs → All (λ c. (c.highest ≤ last_highest bs) ⊎ (width_at (candidate c.lowest) ≤ w)) (closed_cells cs)
+      closed_tried : (cs : List Breakpoint) → AllByRecursion (λ b. width_at (candidate b.lowest) ≤ w) cs → AllByRecursion (λ c. (c.highest ≤ last_highest bs) ⊎ (width_at (candidate c.lowest) ≤ w)) (closed_cells cs)
       closed_tried [] each = tt
       closed_tried (b ∷ cs) (_, rest) = All-weaker _ _ (λ c tried. inr tried) _ (lowest_after (λ low. width_at (candidate low) ≤ w) b cs rest)

@@ -1,7 +1,7 @@
 -- The last element of a list, by its place and by one more at the end.
 use Rattle.std.specs.Prelude.{◌≡◌, ℕ, zero, suc, ◌+◌, ◌<◌, Bool, true, false, List, [], ◌∷◌, ◌++◌, map, length, get_or, take, filter, slice_index_or, refl}
 use Rattle.std.proofs.Common.{sym, ap, ◌∙◌, arith}
-use Rattle.std.specs.List.{AllByRecursion as All}
+use Rattle.std.specs.List.{AllByRecursion}
 use Rattle.std.proofs.lemmas.List.Elements.{filter_more}
 use Rattle.std.proofs.lemmas.List.{append-nil, map_push}
 use Rattle.std.proofs.lemmas.Bool.{cond-false, cond-true}
@@ -21,7 +21,7 @@ last_push d [] x = refl
 last_push d (y ∷ ys) x = last_push y ys x
 
 -- what holds of all holds of the last
-pub last_all : {X : Type 0} (P : X → Type 0) (x : X) (xs : List X) → P x → All P xs → P (last_of x xs)
+pub last_all : {X : Type 0} (P : X → Type 0) (x : X) (xs : List X) → P x → AllByRecursion P xs → P (last_of x xs)
 last_all P x [] first rest = first
 last_all P x (y ∷ ys) first (second, rest) = last_all P y ys second rest
 

@@ -1,7 +1,7 @@
 -- Below the reach of a tier no code comes that the tail admits.
 use Rattle.std.specs.Prelude.{◌≡◌, ℕ, ◌<◌, ◌≤◌, false, ltb, ◌⊎◌, List, [], ◌∷◌, ◌++◌, Some, None, filter, Option, nat_lt, refl}
 use Rattle.std.proofs.Common.{sym, ap, subst, ◌∙◌, inl, inr, ⊎_elim, arith, le_refl}
-use Rattle.std.specs.List.{ContainsAt as Has, AllByRecursion as All}
+use Rattle.std.specs.List.{ContainsAt, AllByRecursion}
 use Rattle.std.proofs.lemmas.List.Elements.{filter-append}
 use Rattle.std.proofs.ByRecursion.{all-has, all_kept_by, All-push}
 use Rattle.std.proofs.lemmas.List.{append-nil}
@@ -36,11 +36,11 @@ module _ (h : ℕ) where
       cond-false (nat_lt h c.lowest) _ _ (le-ltb _ _ low') ∙ none_above c bs chain low'
 
   -- a cell between breakpoints starts at that time or later, or admits only codes above h
-  past_or_above : (t : ℕ) (b : Breakpoint) (bs : List Breakpoint) → Chain b bs → t ≤ b.time → All (λ e. (last_above t bs ≤ e.from) ⊎ (h < e.lowest)) (cells_from b bs)
+  past_or_above : (t : ℕ) (b : Breakpoint) (bs : List Breakpoint) → Chain b bs → t ≤ b.time → AllByRecursion (λ e. (last_above t bs ≤ e.from) ⊎ (h < e.lowest)) (cells_from b bs)
   past_or_above t b [] chain early = tt
   past_or_above t b (c ∷ bs) (next, chain) early =
       cond_both (nat_lt h c.lowest) (c ∷ above bs) (above bs)
-      (λ ks. All (λ e. (last_of t (times ks) ≤ e.from) ⊎ (h < e.lowest)) (cell_between b c ∷ cells_from c bs))
+      (λ ks. AllByRecursion (λ e. (last_of t (times ks) ≤ e.from) ⊎ (h < e.lowest)) (cell_between b c ∷ cells_from c bs))
       (λ yes. (inr (ltb-true _ _ yes), past_or_above c.time c bs chain (le_refl _)))
       (λ no.
       let none = none_above c bs chain (ltb-false _ _ no) in
@@ -63,28 +63,28 @@ reach_early (b ∷ bs) (_, _, chain) =
     (λ _. above_early _ 0 b bs chain (omega arith))
 
 -- a cell starts at the reach or later, or admits no code that the tail does
-closed_past : (bs : List Breakpoint) → Ruled bs → All (λ e. (tier_reach bs ≤ e.from) ⊎ (last_highest bs < e.lowest)) (closed_cells bs)
+closed_past : (bs : List Breakpoint) → Ruled bs → AllByRecursion (λ e. (tier_reach bs ≤ e.from) ⊎ (last_highest bs < e.lowest)) (closed_cells bs)
 closed_past [] ruled = tt
 closed_past (b ∷ bs) (_, _, chain) =
-    cond_both (nat_lt (last_highest (b ∷ bs)) b.lowest) _ _ (λ ks. All (λ e. (last_of 0 (times ks) ≤ e.from) ⊎ (last_highest (b ∷ bs) < e.lowest)) (cells_from b bs))
+    cond_both (nat_lt (last_highest (b ∷ bs)) b.lowest) _ _ (λ ks. AllByRecursion (λ e. (last_of 0 (times ks) ≤ e.from) ⊎ (last_highest (b ∷ bs) < e.lowest)) (cells_from b bs))
     (λ _. past_or_above _ b.time b bs chain (le_refl _))
     (λ _. past_or_above _ 0 b bs chain (omega arith))
 
 -- so a code that an outage below the reach may leave is above all that the tail admits
-pub above_tail : (bs : List Breakpoint) (c : Cell) (v d : ℕ) → Ruled bs → Has (cells bs) c → c.from ≤ d → c.lowest ≤ v → d < tier_reach bs → last_highest bs < v
+pub above_tail : (bs : List Breakpoint) (c : Cell) (v d : ℕ) → Ruled bs → ContainsAt (cells bs) c → c.from ≤ d → c.lowest ≤ v → d < tier_reach bs → last_highest bs < v
 above_tail bs c v d ruled has from low near =
-    let past : All (λ e. (tier_reach bs ≤ e.from) ⊎ (last_highest bs < e.lowest)) (cells bs) = All-push _ (closed_cells bs) (tail bs) (closed_past bs ruled) (inl (reach_early bs ruled)) in
+    let past : AllByRecursion (λ e. (tier_reach bs ≤ e.from) ⊎ (last_highest bs < e.lowest)) (cells bs) = All-push _ (closed_cells bs) (tail bs) (closed_past bs ruled) (inl (reach_early bs ruled)) in
     ⊎_elim (λ late. absurd (omega arith)) (λ high. omega arith) (all-has _ (cells bs) c past has)
 
 abbrev IsClosed : Top → Type 0
 IsClosed (Closed t) = Unit {0}
 IsClosed Open = ⊥
 
-all_closed : (b : Breakpoint) (bs : List Breakpoint) → All (λ e. IsClosed e.to) (cells_from b bs)
+all_closed : (b : Breakpoint) (bs : List Breakpoint) → AllByRecursion (λ e. IsClosed e.to) (cells_from b bs)
 all_closed b [] = tt
 all_closed b (c ∷ bs) = (tt, all_closed c bs)
 
-closed_all : (bs : List Breakpoint) → All (λ e. IsClosed e.to) (closed_cells bs)
+closed_all : (bs : List Breakpoint) → AllByRecursion (λ e. IsClosed e.to) (closed_cells bs)
 closed_all [] = tt
 closed_all (b ∷ bs) = all_closed b bs
 
@@ -93,7 +93,7 @@ abbrev pub ClosedTop : Option Span → Type 0
 ClosedTop None = Unit {0}
 ClosedTop (Some s) = IsClosed s.top
 
-spanned_closed : (cs : List Cell) → All (λ e. IsClosed e.to) cs → ClosedTop (spanned cs)
+spanned_closed : (cs : List Cell) → AllByRecursion (λ e. IsClosed e.to) cs → ClosedTop (spanned cs)
 spanned_closed [] closed = tt
 spanned_closed (c ∷ cs) (first, rest) = last_all (λ e. IsClosed e.to) c cs first rest
 

@@ -1,6 +1,6 @@
 -- The meaning of a tier.
 use Rattle.std.specs.Prelude.{ℕ, zero, suc, ◌-◌, ◌<◌, max, cond, List, [], ◌∷◌, length, Some, None, Ok, Err, filter, Option, Result, nat_le, nat_lt}
-use Rattle.std.specs.List.{ContainsAt as Has}
+use Rattle.std.specs.List.{ContainsAt}
 use Rattle.interval.specs.declared.top.Top.TheVariants.{Closed, Open}
 use Rattle.interval.specs.Spans.{Span, ends, Holds}
 use Rattle.gauge.specs.declared.fault.GaugeFault.{GaugeFault}
@@ -17,7 +17,7 @@ use Rattle.leaf.specs.Cells.{Admits, cells, last_highest, last_time, outages}
 
 -- an outage of length d may leave the code v: a cell that holds d admits it
 abbrev pub CodeAllowed : List Breakpoint → ℕ → ℕ → Type 0
-CodeAllowed bs v d = (c : Cell) × Has (cells bs) c × Holds (outages c) d × Admits v c
+CodeAllowed bs v d = (c : Cell) × ContainsAt (cells bs) c × Holds (outages c) d × Admits v c
 
 -- from the start of the first cell to the end of the last
 abbrev pub spanned : List Cell → Option Span

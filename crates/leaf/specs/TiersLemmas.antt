@@ -1,7 +1,7 @@
 -- A tier shows what a gauge must.
 use Rattle.std.specs.Prelude.{◌≡◌, ℕ, suc, ◌+◌, ◌<◌, ◌≤◌, true, List, Some, None, Ok, Err, Option, nat_le, refl}
 use Rattle.std.proofs.Common.{sym, subst, ◌∙◌, ⊎_elim, arith, le_trans}
-use Rattle.std.specs.List.{ContainsAt as Has, AllByRecursion as All}
+use Rattle.std.specs.List.{ContainsAt, AllByRecursion}
 use Rattle.std.proofs.ByRecursion.{all-has, all_has_itself, all_kept_by, All-weaker, kept_by_passes}
 use Rattle.std.proofs.lemmas.Bool.{and_from, and_parts, cases_lt, cond-false, cond-true, le-leb, leb-true, lt-leb}
 use Rattle.interval.specs.declared.top.Top.{Top}
@@ -62,8 +62,8 @@ is_admitted v c test = let parts = and_parts (nat_le c.lowest v) (nat_le v c.hig
 
 -- cells that admit the code v: each is one of cs and admits it, and they are in order
 pub record Admitting (v : ℕ) (cs ks : List Cell) : Type 0 where
-  pub among : All (Has cs) ks
-  pub admitted : All (Admits v) ks
+  pub among : AllByRecursion (ContainsAt cs) ks
+  pub admitted : AllByRecursion (Admits v) ks
   pub order : Ordered ks
 
 module _ (bs : List Breakpoint) (ruled : Ruled bs) where
@@ -76,14 +76,14 @@ module _ (bs : List Breakpoint) (ruled : Ruled bs) where
   })
 
   -- the answer to a code holds the outages of every cell that admits it
-  pub spans_admitting : (v : ℕ) (c : Cell) → Has (cells bs) c → Admits v c → Spans c (by_code bs v)
+  pub spans_admitting : (v : ℕ) (c : Cell) → ContainsAt (cells bs) c → Admits v c → Spans c (by_code bs v)
   spans_admitting v c has (low, high) =
       let order = (are_admitting v _ refl).order in
       let each = all_passing (admits v) (λ e. Spans e (by_code bs v)) (cells bs) (spans_each (admitting v (cells bs)) order) in
       all-has _ (cells bs) c each has (and_from _ _ (le-leb _ _ low) (le-leb _ _ high))
 
   -- a code that a cell admits is on the scale
-  pub on_scale : (v : ℕ) (c : Cell) → Has (cells bs) c → Admits v c → v ≤ top_code
+  pub on_scale : (v : ℕ) (c : Cell) → ContainsAt (cells bs) c → Admits v c → v ≤ top_code
   on_scale v c has (_, high) = le_trans high (all-has (λ e. e.highest ≤ top_code) (cells bs) c (codes_in_range bs ruled) has)
 
   -- the ends of every answer are in order and do not pass the last breakpoint

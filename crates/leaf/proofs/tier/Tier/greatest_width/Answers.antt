@@ -1,6 +1,6 @@
 -- `greatest_width`: each turn tries one candidate more, and when all have been tried nothing is wider.
 use Rattle.std.proofs.Common.{ℕ, ◌+◌, ◌≤◌, max, get_or, take, ap, ◌∙◌, subst, le_trans, arith}
-use Rattle.std.specs.List.{AllByRecursion as All}
+use Rattle.std.specs.List.{AllByRecursion}
 use Rattle.std.proofs.ByRecursion.{All-more, All-weaker}
 use Rattle.std.proofs.lemmas.List.{take_all}
 use Rattle.leaf.specs.declared.breakpoint.Breakpoint.{Breakpoint}
@@ -36,5 +36,5 @@ returns c =
     let all = take_all _ c.as_slice-breakpoint-items.result.now c.loop-breakpoint-test.false ∙ c.as_slice-breakpoint-items.ensures.value in
     let tried = λ (h : ℕ) (b : Breakpoint). closed_width (by_code bs (max b.lowest (h + 1))) ≤ w in
     let highest = c.last_highest-closing in
-    let under = width_under bs (is_ruled bs tier.ruled) w (subst (λ n. All (tried n) bs) highest.ensures (subst (All (tried highest.result)) all seen.1)) in
+    let under = width_under bs (is_ruled bs tier.ruled) w (subst (λ n. AllByRecursion (tried n) bs) highest.ensures (subst (AllByRecursion (tried highest.result)) all seen.1)) in
     omega arith
