@@ -4,6 +4,7 @@
 mod allowances;
 mod answer;
 mod clocks;
+// Two tiers and a counter: proved, and not among the cases yet.
 mod gauges;
 mod row;
 mod worked;

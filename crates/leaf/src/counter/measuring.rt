@@ -2,6 +2,7 @@
 ghost use Rattle.interval.specs.Spans.{span};
 ghost use Rattle.leaf.specs.Counters.{counted, counter_meaning};
 ghost use Rattle.std.specs.Prelude.{◌≡◌};
+ghost use Rattle.std.proofs.Common.{rules};
 ghost use Rattle.leaf.specs.CountersLemmas.{counter_shows};
 
 use crate::counter::Counter;
@@ -31,7 +32,7 @@ impl Counter {
 impl Gauge for Counter {
     ghost meaning = { λ counter. counter_meaning counter.channel counter.period };
 
-    ghost shows = { λ counter. counter_shows counter.period counter.ruled counter.channel };
+    ghost shows = { λ counter. let shown = counter_shows counter.period counter.ruled counter.channel in Prim.search rules };
 
     fn measure(&self, row: &[u16]) -> Result<Interval, GaugeFault> {
         let count = reading(row, self.channel)?;

@@ -3,6 +3,7 @@ ghost use Rattle.interval.specs.Spans.{answered};
 ghost use Rattle.leaf.specs.TierData.{points};
 ghost use Rattle.leaf.specs.Tiers.{code_answer, tier_meaning};
 ghost use Rattle.std.specs.Prelude.{◌≡◌};
+ghost use Rattle.std.proofs.Common.{rules};
 ghost use Rattle.leaf.specs.TiersLemmas.{ruled_shows};
 
 use crate::breakpoint::TOP_CODE;
@@ -41,7 +42,7 @@ impl Tier {
 impl Gauge for Tier {
     ghost meaning = { λ tier. tier_meaning tier.channel (points tier) };
 
-    ghost shows = { λ tier. ruled_shows tier.channel (points tier) tier.ruled };
+    ghost shows = { λ tier. let shown = ruled_shows tier.channel (points tier) tier.ruled in Prim.search rules };
 
     fn measure(&self, row: &[u16]) -> Result<Interval, GaugeFault> {
         let code = reading(row, self.channel)?;
