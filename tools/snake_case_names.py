@@ -3,9 +3,10 @@
 
 usage: python3 tools/snake_case_names.py          at the top of the checkout, once
 
-It reads which names the files of specs/ and proofs/ define, leaves the names of goals and those of the library as they
-are, and refuses to write anything where two names would fall together. Code, strings and comments keep their words: of
-a .rt file only clauses, ghost items and ghost imports are turned.
+It reads which names the files of specs/ and proofs/ define, and leaves other names as they are: those of the library, and
+those of goals, unless one is spelled like a name that is defined. Where two of its names would fall together it writes
+nothing; where the new spelling of one stands somewhere already, as in the path of a proof, it says so and goes on. Code,
+strings and comments keep their words: of a .rt file only clauses, ghost items and ghost imports are turned.
 """
 
 import os

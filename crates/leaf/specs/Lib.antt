@@ -1,4 +1,4 @@
--- The definitions that the contracts of this crate cite, one concept a file.
+-- The definitions that the contracts of this crate cite, one concept a file, and the lemmas under the law of gauges.
 pub mod Lasts
 pub mod Readings
 pub mod Counters
