@@ -1,6 +1,5 @@
 // What the library answered, in the form in which the bench prints it.
 ghost use Rattle.bench.specs.Answers.{Refuses};
-ghost use Rattle.bench.specs.declared.answer.Answer.{Answer};
 ghost use Rattle.bench.specs.declared.answer.Answer.TheVariants.{Interval as ShownInterval, Nothing, Time};
 ghost use Rattle.std.specs.Prelude.{◌≡◌, MatchOption, MatchResult};
 
@@ -10,6 +9,7 @@ use interval::told::Told;
 use interval::top::Top;
 use std::fmt;
 
+// No `Option` or `Result`: it is what is printed, whichever of these the library gave.
 #[derive(Clone, Copy)]
 pub enum Answer {
     Interval(Interval),
@@ -18,61 +18,54 @@ pub enum Answer {
     Refused { number: u32, told: Told },
 }
 
-// What the library gives, whatever its type, as one answer to print.
-pub trait Answered {
-    // Which answers may be printed for a value.
-    ghost shown: { Self → Answer → Type 0 };
+impl From<Interval> for Answer {
+    ghost from_gives = { λ value answer. answer ≡ ShownInterval value };
 
-    fn answer(self) -> Answer
-        ensures { shown self result };
-}
-
-impl Answered for Interval {
-    ghost shown = { λ interval r. r ≡ ShownInterval interval };
-
-    fn answer(self) -> Answer {
-        Answer::Interval(self)
+    fn from(value: Interval) -> Answer {
+        Answer::Interval(value)
     }
 }
 
-impl Answered for u64 {
-    ghost shown = { λ time r. r ≡ Time time };
+impl From<u64> for Answer {
+    ghost from_gives = { λ value answer. answer ≡ Time value };
 
-    fn answer(self) -> Answer {
-        Answer::Time(self)
+    fn from(value: u64) -> Answer {
+        Answer::Time(value)
     }
 }
 
 // A result is shown as its value or as its refusal.
-impl<T: Answered, E: Refusal + Drop> Answered for Result<T, E> {
-    ghost shown = { λ result r. MatchResult result (λ value. T.Answered.shown value r) (λ fault. Refuses r (E.Refusal.numbered fault) (E.Refusal.tells fault)) };
+impl<T: Into<Answer>, E: Refusal + Drop> From<Result<T, E>> for Answer {
+    ghost from_gives = { λ result answer. MatchResult result (λ value. T.Into.converts value answer) (λ fault. Refuses answer (E.Refusal.numbered fault) (E.Refusal.tells fault)) };
 
-    fn answer(self) -> Answer {
-        match self {
-            Ok(value) => value.answer(),
-            Err(fault) => refused(fault),
+    fn from(value: Result<T, E>) -> Answer {
+        match value {
+            Ok(value) => value.into(),
+            Err(fault) => Answer::refused(fault),
         }
     }
 }
 
-// A refusal as its number and the numbers that it tells.
-pub(crate) fn refused<E: Refusal + Drop>(fault: E) -> Answer
-    ensures { Refuses result (E.Refusal.numbered fault) (E.Refusal.tells fault) }
-{
-    Answer::Refused {
-        number: fault.number(),
-        told: fault.told(),
+// An option is shown as its value, or as nothing.
+impl<T: Into<Answer>> From<Option<T>> for Answer {
+    ghost from_gives = { λ option answer. MatchOption option (answer ≡ Nothing) (λ value. T.Into.converts value answer) };
+
+    fn from(value: Option<T>) -> Answer {
+        match value {
+            Some(value) => value.into(),
+            None => Answer::Nothing,
+        }
     }
 }
 
-// An option is shown as its value, or as nothing.
-impl<T: Answered> Answered for Option<T> {
-    ghost shown = { λ option r. MatchOption option (r ≡ Nothing) (λ value. T.Answered.shown value r) };
-
-    fn answer(self) -> Answer {
-        match self {
-            Some(value) => value.answer(),
-            None => Answer::Nothing,
+impl Answer {
+    // A refusal as its number and the numbers that it tells. Not a `From`, which would overlap with those above.
+    pub(crate) fn refused<E: Refusal + Drop>(fault: E) -> Answer
+        ensures { Refuses result (E.Refusal.numbered fault) (E.Refusal.tells fault) }
+    {
+        Answer::Refused {
+            number: fault.number(),
+            told: fault.told(),
         }
     }
 }

@@ -1,6 +1,5 @@
 // Four clocks that timed the same outage, the last of them far off: their meetings, and what two of them share.
-use crate::answer;
-use crate::answer::Answered;
+use crate::answer::Answer;
 use interval::fault::RuleFault;
 use interval::interval::Interval;
 use interval::meeting::meeting;
@@ -11,7 +10,7 @@ pub(crate) fn run(rt: &HostRuntime) -> io::Result<()> {
     match stated() {
         Ok(clocks) => report(rt, &clocks),
         Err(fault) => {
-            let refused = answer::refused(fault);
+            let refused = Answer::refused(fault);
             println!(rt; "clocks: {refused}")
         }
     }
@@ -29,17 +28,17 @@ fn stated() -> Result<[Interval; 4], RuleFault> {
 
 fn report(rt: &HostRuntime, clocks: &[Interval; 4]) -> io::Result<()> {
     for (i, clock) in clocks.iter().enumerate() {
-        let shown = clock.answer();
+        let shown = Answer::from(*clock);
         println!(rt; "clock {i}: {shown}")?;
     }
-    let backwards = Interval::new(7, Top::Closed(6)).answer();
+    let backwards = Answer::from(Interval::new(7, Top::Closed(6)));
     println!(rt; "a clock that states 7 to 6: {backwards}")?;
     for quorum in [3, 2, 4, 5] {
-        let met = meeting(clocks, quorum).answer();
+        let met = Answer::from(meeting(clocks, quorum));
         println!(rt; "meeting at {quorum}: {met}")?;
     }
     for (one, other) in [(1, 2), (0, 3)] {
-        let shared = clocks[one].shared(&clocks[other]).answer();
+        let shared = Answer::from(clocks.as_slice()[one].shared(&clocks.as_slice()[other]));
         println!(rt; "clocks {one} and {other} share: {shared}")?;
     }
     Ok(())

@@ -1,6 +1,5 @@
 // Two tiers and a counter, and what each makes of its rows.
-use crate::answer;
-use crate::answer::Answered;
+use crate::answer::Answer;
 use crate::row::Row;
 use gauge::gauge::Gauge;
 use leaf::breakpoint::Breakpoint;
@@ -43,13 +42,9 @@ fn never_full(rt: &HostRuntime) -> io::Result<()> {
         return println!(rt; "tier on channel 2: no memory");
     };
     for (time, lowest, highest) in [(0, 3000, 3500), (10, 1000, 1500), (10, 900, 1400)] {
-        let added = tier.add(Breakpoint {
-            time,
-            lowest,
-            highest,
-        });
+        let added = tier.add(Breakpoint::new(time, lowest, highest));
         if let Err(fault) = added {
-            let refused = answer::refused(fault);
+            let refused = Answer::refused(fault);
             println!(rt; "breakpoint ({time}, {lowest}, {highest}): {refused}")?;
         }
     }
@@ -71,7 +66,7 @@ fn counter(rt: &HostRuntime, period: u32) -> io::Result<()> {
             report(rt, "counter on channel 1", &counter, &rows)
         }
         Err(fault) => {
-            let refused = answer::refused(fault);
+            let refused = Answer::refused(fault);
             println!(rt; "counter of period {period}: {refused}")
         }
     }
@@ -84,7 +79,7 @@ fn report<G: Gauge>(rt: &HostRuntime, name: &str, gauge: &G, rows: &[&[u16]]) ->
     let ceiling = gauge.ceiling();
     println!(rt; "{name}: reach {reach}, width {width}, ceiling {ceiling}")?;
     for row in rows {
-        let answer = gauge.measure(row).answer();
+        let answer = Answer::from(gauge.measure(row));
         let row = Row { readings: row };
         println!(rt; "{name}, row {row}: {answer}")?;
     }

@@ -1,7 +1,8 @@
 -- The digits of a path's number are the places that were put in front, one after the other.
-use Rattle.std.proofs.Common.{◌≡◌, ℕ, zero, suc, ◌+◌, ◌*◌, ◌^◌, ◌<◌, ◌≤◌, min, ltb, List, [], ◌∷◌, length, sym, refl, ap, ◌∙◌, ⊎_elim, le_trans, mul-le-mul_right, pow-suc, add-one, arith, lit<}
+use Rattle.std.proofs.Common.{◌≡◌, ℕ, zero, suc, ◌+◌, ◌*◌, ◌^◌, ◌<◌, ◌≤◌, min, ltb, nat_le, cond, List, [], ◌∷◌, length, sym, refl, ap, ◌∙◌, ⊎_elim, le_trans, mul-le-mul_right, pow-suc, add-one, arith, lit<}
 use native.Mathlib.Nat.{pow-le-pow_right}
-use Rattle.std.specs.List.{AllByRecursion}
+use Rattle.std.specs.List.{AllByRecursion, count_by, range_with_len}
+use Rattle.std.proofs.lemmas.List.Sums.{sum_by-cons}
 use Rattle.std.proofs.lemmas.Bool.{cases_lt, le-leb, lt-leb, lt-ltb, le-ltb, cond-true, cond-false}
 use Rattle.gauge.specs.Paths.{most_digits, digits_below, digits, in_front, places_number, IsPlace, PathLaws}
 
@@ -9,12 +10,19 @@ use Rattle.gauge.specs.Paths.{most_digits, digits_below, digits, in_front, place
 powers_rise : (i j : ℕ) → i ≤ j → 4 ^ i ≤ 4 ^ j
 powers_rise i j le = pow-le-pow_right (lit< tt) le
 
--- one power more: a number that reaches it has one digit more
-pub digits_more : (k n : ℕ) → 4 ^ k ≤ n → digits_below (k + 1) n ≡ digits_below k n + 1
-digits_more k n reached = rw (add-one k, le-leb (4 ^ k) n reached) refl
+-- one power more
+digits_more : (k n : ℕ) → digits_below (k + 1) n ≡ digits_below k n + cond (nat_le (4 ^ k) n) 1 0
+digits_more k n = rw (add-one k) refl
 
-pub digits_same : (k n : ℕ) → n < 4 ^ k → digits_below (k + 1) n ≡ digits_below k n
-digits_same k n short = rw (add-one k, lt-leb (4 ^ k) n short) (omega arith)
+-- the powers counted from the i-th on, up to the m-th
+digits_from : (i k m n : ℕ) → i + k ≡ m → count_by (λ j. nat_le (4 ^ j) n) (range_with_len i k) + digits_below i n ≡ digits_below m n
+digits_from i zero m n e = let same : i ≡ m = omega arith in omega (arith, ap (λ j. digits_below j n) same)
+digits_from i (suc k) m n e =
+    omega (arith, sum_by-cons (λ j. cond (nat_le (4 ^ j) n) 1 0) i (range_with_len (i + 1) k), digits_more i n, digits_from (i + 1) k m n (omega arith))
+
+-- the digits of a number, counted from the lowest power on
+pub digits_counted : (k n : ℕ) → count_by (λ j. nat_le (4 ^ j) n) (range_with_len 0 k) ≡ digits_below k n
+digits_counted k n = let all : count_by (λ j. nat_le (4 ^ j) n) (range_with_len 0 k) + 0 ≡ digits_below k n = digits_from 0 k k n (omega arith) in omega arith
 
 -- the powers below fifteen fit 32 bits
 pub power_fits : (k : ℕ) → k < most_digits → 4 ^ k ≤ 268435456

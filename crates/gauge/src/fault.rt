@@ -4,8 +4,9 @@ ghost use Rattle.gauge.specs.Faults.{gauge_number, gauge_told};
 use crate::path::Path;
 use interval::fault::{NO_MEETING, Refusal};
 use interval::told::Told;
+use std::alloc::AllocError;
 
-// The numbers of the refusals that only gauges have.
+// The numbers of the refusals that only gauges have; `interval` says why they are constants.
 const MISSING: u32 = 1;
 
 const OFF_SCALE: u32 = 2;
@@ -52,8 +53,8 @@ impl Refusal for GaugeFault {
                 channel,
                 code,
                 path,
-            } => Told::three(*channel as u64, *code as u64, path.number() as u64),
-            GaugeFault::Impossible {
+            }
+            | GaugeFault::Impossible {
                 channel,
                 code,
                 path,
@@ -69,3 +70,9 @@ impl Refusal for GaugeFault {
 // The heap had no room for what was to be made. It is no refusal, so it has no number.
 #[derive(Clone, Copy, Debug)]
 pub struct NoMemory;
+
+impl From<AllocError> for NoMemory {
+    fn from(_: AllocError) -> NoMemory {
+        NoMemory
+    }
+}

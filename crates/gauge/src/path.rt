@@ -1,7 +1,9 @@
 // Where in a pile of gauges a fault arose. A path is one number: its base-4 digits are the places of the parts on the
 // way down, the outermost first.
 ghost use Rattle.std.specs.Prelude.{◌≡◌, ◌≤◌};
-ghost use Rattle.gauge.specs.Paths.{PathLaws, digits, in_front, place_digit, start, under};
+ghost use Rattle.gauge.specs.Paths.{PathLaws, digits, in_front, place_digit, start};
+
+use std::marker::Model;
 
 // The most digits that a path has; a path of so many stays as it is.
 const MOST_DIGITS: u32 = 15;
@@ -11,14 +13,25 @@ const BASE: u32 = 4;
 // The place of a part in the layer that holds it.
 #[derive(Clone, Copy)]
 pub enum Place {
-    First,
+    First = 1,
     Second,
     Third,
 }
 
+// A contract sees a path as its number.
 #[derive(Clone, Copy, PartialEq, Eq, Debug)]
 pub struct Path {
     number: u32,
+}
+
+impl Model for Path {
+    ghost use Rattle.std.specs.Prelude.{ℕ};
+
+    ghost Value = { ℕ };
+
+    ghost view = { λ path. path.number };
+
+    ghost inverse = { λ number. record { number = number } };
 }
 
 impl Place {
@@ -26,11 +39,7 @@ impl Place {
     pub fn digit(&self) -> u32
         ensures { result ≡ place_digit self.now }
     {
-        match self {
-            Place::First => 1,
-            Place::Second => 2,
-            Place::Third => 3,
-        }
+        *self as u32
     }
 }
 
@@ -44,7 +53,7 @@ impl Path {
 
     // The path of a fault that the part at `place` hands up to its layer.
     pub fn under(self, place: Place) -> Path
-        ensures value { result ≡ under (place_digit place) self }
+        ensures value { result ≡ in_front (place_digit place) self }
         ensures laws { PathLaws }
     {
         Path {
@@ -53,7 +62,7 @@ impl Path {
     }
 
     pub fn number(&self) -> u32
-        ensures { result ≡ self.now.number }
+        ensures { result ≡ self.now }
     {
         self.number
     }
@@ -76,11 +85,7 @@ fn in_front(digit: u32, number: u32) -> u32
 fn digits(number: u32) -> u32
     ensures { result ≡ digits number }
 {
-    let mut digits = 0;
-    for place in 0..MOST_DIGITS {
-        if BASE.pow(place) <= number {
-            digits += 1;
-        }
-    }
-    digits
+    (0..MOST_DIGITS)
+        .filter(|&place| BASE.pow(place) <= number)
+        .count() as u32
 }

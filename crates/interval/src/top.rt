@@ -1,9 +1,10 @@
 // The top of an interval: closed at a time, or open where nothing is known of how far it goes.
 ghost use Rattle.std.specs.Prelude.{◌≡◌};
-ghost use Rattle.interval.specs.Shared.{least_top};
 ghost use Rattle.interval.specs.Tops.{closed_time, is_open};
 
-#[derive(Clone, Copy, PartialEq, Eq, Debug)]
+// Tops in their order: the later a closed one the higher, and an open one above all of these. No `Option`: the project
+// fixes this form (docs/DECISIONS.md), and `None` would stand below every time.
+#[derive(Clone, Copy, PartialEq, Eq, PartialOrd, Ord, Debug)]
 pub enum Top {
     Closed(u64),
     Open,
@@ -23,20 +24,6 @@ impl Top {
     pub fn is_open(&self) -> bool
         ensures { result ≡ is_open self.now }
     {
-        match self {
-            Top::Closed(_) => false,
-            Top::Open => true,
-        }
-    }
-
-    // The lower of two tops; an open top is above every closed one.
-    pub(crate) fn least(self, other: Top) -> Top
-        ensures { result ≡ least_top self other }
-    {
-        match (self, other) {
-            (Top::Closed(s), Top::Closed(t)) => Top::Closed(s.min(t)),
-            (Top::Closed(s), Top::Open) => Top::Closed(s),
-            (Top::Open, t) => t,
-        }
+        matches!(self, Top::Open)
     }
 }

@@ -1,4 +1,5 @@
 -- The proofs of this crate that several functions share.
+mod Lasts
 mod Cells
 mod Searches
 mod Candidates

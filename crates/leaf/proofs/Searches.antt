@@ -1,7 +1,7 @@
--- The search among the cells, one turn after the other.
-use Rattle.std.proofs.Common.{◌≡◌, ℕ, ◌+◌, ◌<◌, ◌≤◌, true, false, List, [], ◌∷◌, length, get_or, drop, Some, sym, ap, ◌∙◌}
-use Rattle.std.proofs.lemmas.List.{at_drop_more, drop_all, get_or_default, get_or_read}
-use Rattle.std.proofs.lemmas.Bool.{cond-true, cond-false}
+-- What the first and the last cell that admit a code make.
+use Rattle.std.proofs.Common.{◌≡◌, ℕ, ◌+◌, ◌<◌, true, List, ◌∷◌, length, get_or, drop, Some, sym, ap, ◌∙◌}
+use Rattle.std.proofs.lemmas.List.{at_drop_more, get_or_default}
+use Rattle.std.proofs.lemmas.Bool.{cond-true}
 use Rattle.interval.specs.Spans.{ends}
 use Rattle.leaf.specs.declared.cell.Cell.{Cell}
 use Rattle.leaf.specs.Cells.{admits}
@@ -9,26 +9,14 @@ use Rattle.leaf.specs.Lasts.{last_of}
 use Rattle.leaf.specs.Searches.{FirstAdmitting, LastAdmitting, admitting}
 use Rattle.leaf.specs.Tiers.{spanned}
 
--- past the last cell there is none
-pub admitting_end : (v : ℕ) (cs : List Cell) (i : ℕ) → length cs ≤ i → admitting v (drop i cs) ≡ []
-admitting_end v cs i past = ap (admitting v) (drop_all i cs past)
-
 -- c is the cell at i
 module _ (v : ℕ) (cs : List Cell) (i : ℕ) (c : Cell) (within : i < length cs) (read : c ≡ get_or cs i c) where
-  -- if it does not admit the code, those that do come after it
-  pub admitting_no : admits v c ≡ false → admitting v (drop i cs) ≡ admitting v (drop (i + 1) cs)
-  admitting_no refused = at_drop_more (admitting v) cs i c within ∙ cond-false _ _ _ (ap (admits v) (sym read) ∙ refused)
-
-  -- if it does, it is the first of them
+  -- if it admits the code, it is the first of those from there on that do
   pub admitting_yes : admits v c ≡ true → (e : Cell) → admitting v (drop i cs) ≡ get_or cs i e ∷ admitting v (drop (i + 1) cs)
   admitting_yes admitted e =
       at_drop_more (admitting v) cs i c within
       ∙ cond-true _ _ _ (ap (admits v) (sym read) ∙ admitted)
       ∙ ap (λ c. c ∷ admitting v (drop (i + 1) cs)) (get_or_default cs i c e within)
-
-  -- what it is stands at its place, whatever the default
-  pub admits_there : admits v c ≡ true → (e : Cell) → admits v (get_or cs i e) ≡ true
-  admits_there admitted e = ap (admits v) (sym (get_or_read cs i c within read e)) ∙ admitted
 
 -- the first and the last cell that admit the code make the span
 pub spanned_found : (v : ℕ) (cs : List Cell) (i j : ℕ) (first last : Cell) → FirstAdmitting v cs (Some i) → LastAdmitting v cs i j → first ≡ get_or cs i first → last ≡ get_or cs j last → spanned (admitting v cs) ≡ Some (ends first.from last.to)

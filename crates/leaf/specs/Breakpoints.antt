@@ -4,6 +4,9 @@ use Rattle.interval.specs.declared.fault.RuleFault.{RuleFault}
 use Rattle.interval.specs.Faults.{out_of_rule}
 use Rattle.leaf.specs.declared.breakpoint.Breakpoint.{Breakpoint}
 
+abbrev pub breakpoint : ℕ → ℕ → ℕ → Breakpoint
+breakpoint time lowest highest = record { time = time; lowest = lowest; highest = highest }
+
 abbrev pub top_code : ℕ
 top_code = 4095
 

@@ -1,8 +1,9 @@
 -- What the rules of breakpoints say: the tests as facts.
-use Rattle.std.specs.Prelude.{◌≡◌, ℕ, ◌+◌, ◌<◌, ◌≤◌, Bool, true, false, ◌&&◌, List, [], ◌∷◌, ◌++◌, length, nat_le, slice_index_or, refl}
+use Rattle.std.specs.Prelude.{◌≡◌, ℕ, ◌+◌, ◌<◌, ◌≤◌, true, ◌&&◌, List, [], ◌∷◌, ◌++◌, length, nat_le, slice_index_or}
 use Rattle.std.proofs.Common.{sym, ap, ◌∙◌, arith}
 use Rattle.std.proofs.lemmas.List.{length_push, map-id}
-use Rattle.std.proofs.lemmas.Bool.{and_parts, and_right, le-leb, leb-true, lt-leb}
+use Rattle.std.proofs.Math.Bool.{and-true}
+use Rattle.std.proofs.lemmas.Bool.{and_parts, le-leb}
 use Rattle.std.proofs.lemmas.Bool.Decides.{nat_tests}
 use Rattle.leaf.specs.declared.breakpoint.Breakpoint.{Breakpoint}
 use Rattle.leaf.specs.Lasts.{last_of}
@@ -57,14 +58,9 @@ is_ruled (b ∷ bs) test =
     let parts = and_parts (starts b) (chained b bs) (and_parts (ordered (b ∷ bs)) (nat_le (length (b ∷ bs)) most_breakpoints) test).0 in
     (grind (arith, nat_tests), is_within b (and_parts _ _ parts.0).1, is_chain b bs parts.1)
 
--- a test that must pass as well changes nothing where it passes
-and_true : (x : Bool) → (x && true) ≡ x
-and_true true = refl
-and_true false = refl
-
 -- one more after a chain: it must follow the last
 chain_push : (b : Breakpoint) (bs : List Breakpoint) (c : Breakpoint) → chained b bs ≡ true → chained b (bs ++ c ∷ []) ≡ follows (last_of b bs) c
-chain_push b [] c rule = and_true (follows b c)
+chain_push b [] c rule = and-true (follows b c)
 chain_push b (d ∷ bs) c rule =
     let parts = and_parts (follows b d) (chained d bs) rule in
     ap (λ t. t && chained d (bs ++ c ∷ [])) parts.0 ∙ chain_push d bs c parts.1
@@ -73,17 +69,7 @@ module _ (bs : List Breakpoint) (b : Breakpoint) where
   -- with room left, only the order of the breakpoints is asked
   room_left : length bs < most_breakpoints → ordered (bs ++ b ∷ []) ≡ in_rule (bs ++ b ∷ [])
   room_left few =
-      sym (ap (λ t. ordered (bs ++ b ∷ []) && t) (le-leb _ most_breakpoints (omega (arith, length_push bs b))) ∙ and_true _)
-
-  -- and with none, nothing more is in rule
-  pub full_refuses : most_breakpoints ≤ length bs → false ≡ in_rule (bs ++ b ∷ [])
-  full_refuses full = sym (and_right (ordered (bs ++ b ∷ [])) _ (lt-leb _ most_breakpoints (omega (arith, length_push bs b))))
-
-  -- so where one more is in rule, there is room for it
-  pub room_for : in_rule (bs ++ b ∷ []) ≡ true → length bs < most_breakpoints
-  room_for rule =
-      let few = leb-true (length (bs ++ b ∷ [])) most_breakpoints (and_parts (ordered (bs ++ b ∷ [])) _ rule).1 in
-      omega (arith, length_push bs b)
+      sym (ap (λ t. ordered (bs ++ b ∷ []) && t) (le-leb _ most_breakpoints (omega (arith, length_push bs b))) ∙ and-true _)
 
 -- a breakpoint after others is in rule if it may follow the last
 pub next_in_rule : (bs : List Breakpoint) (b last : Breakpoint) (k : ℕ) → in_rule bs ≡ true → length bs < most_breakpoints → k + 1 ≡ length bs → last ≡ slice_index_or bs k last → follows last b ≡ in_rule (bs ++ b ∷ [])

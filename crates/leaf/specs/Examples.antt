@@ -1,14 +1,11 @@
 -- A worked tier, as the definitions have it.
-use Rattle.std.specs.Prelude.{◌≡◌, ℕ, true, List, [], ◌∷◌, Ok}
+use Rattle.std.specs.Prelude.{◌≡◌, true, List, [], ◌∷◌, Ok}
 use Rattle.interval.specs.declared.top.Top.TheVariants.{Closed, Open}
 use Rattle.interval.specs.Spans.{ends}
 use Rattle.gauge.specs.Meaning.{Meaning}
 use Rattle.leaf.specs.declared.breakpoint.Breakpoint.{Breakpoint}
-use Rattle.leaf.specs.Breakpoints.{in_rule}
+use Rattle.leaf.specs.Breakpoints.{breakpoint, in_rule}
 use Rattle.leaf.specs.Tiers.{tier_meaning}
-
-abbrev pub breakpoint : ℕ → ℕ → ℕ → Breakpoint
-breakpoint time lowest highest = record { time = time; lowest = lowest; highest = highest }
 
 -- four breakpoints of a capacitor that is nearly empty after 5 s
 abbrev pub worked_points : List Breakpoint

@@ -1,9 +1,9 @@
 -- Cells in their order, those of them that admit a code, and the span from the first to the last.
-use Rattle.std.specs.Prelude.{◌≡◌, ℕ, ◌≤◌, Bool, true, false, List, [], ◌∷◌, Some, None, filter, Option, refl}
+use Rattle.std.specs.Prelude.{◌≡◌, ℕ, ◌≤◌, Bool, false, List, [], ◌∷◌, Some, None, filter, Option, refl}
 use Rattle.std.proofs.Common.{◌∙◌, le_refl}
 use Rattle.std.specs.List.{AllByRecursion}
 use Rattle.std.proofs.ByRecursion.{all_kept_by, All-weaker}
-use Rattle.std.proofs.lemmas.Bool.{both_ways, cond_both, cond-false}
+use Rattle.std.proofs.lemmas.Bool.{cond_both, cond-false}
 use Rattle.interval.specs.Tops.{AtMost}
 use Rattle.interval.specs.Spans.{InOrder, Span}
 use Rattle.gauge.specs.Shows.{EndsBy}
@@ -29,15 +29,6 @@ ordered_kept p (c ∷ cs) (inner, later, order) =
     cond_both (p c) _ _ Ordered
     (λ _. (inner, all_kept_by p (NotBefore c) cs later, ordered_kept p cs order))
     (λ _. ordered_kept p cs order)
-
--- what holds of those that pass a test holds of each, if it passes
-pub all_passing : (p : Cell → Bool) (Q : Cell → Type 0) (cs : List Cell) → AllByRecursion Q (filter p cs) → AllByRecursion (λ c. p c ≡ true → Q c) cs
-all_passing p Q [] kept = tt
-all_passing p Q (c ∷ cs) kept =
-    cond_both (p c) _ _ (λ (ks : List Cell). AllByRecursion Q ks → (p c ≡ true → Q c) × AllByRecursion (λ c. p c ≡ true → Q c) cs)
-    (λ _ (first, rest). (λ _. first, all_passing p Q cs rest))
-    (λ no rest. (λ yes. absurd (both_ways (p c) no yes), all_passing p Q cs rest))
-    kept
 
 -- where none passes, nothing is kept
 pub kept_none : (p : Cell → Bool) (cs : List Cell) → AllByRecursion (λ c. p c ≡ false) cs → filter p cs ≡ []

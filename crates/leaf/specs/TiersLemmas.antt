@@ -8,6 +8,7 @@ use Rattle.interval.specs.declared.top.Top.{Top}
 use Rattle.interval.specs.declared.top.Top.TheVariants.{Closed, Open}
 use Rattle.interval.specs.Tops.{AtMost}
 use Rattle.interval.specs.Spans.{Holds, Span, ends}
+use Rattle.interval.proofs.Lists.{all_passing}
 use Rattle.gauge.specs.declared.fault.GaugeFault.{GaugeFault}
 use Rattle.gauge.specs.declared.fault.GaugeFault.TheVariants.{Impossible, OffScale}
 use Rattle.gauge.specs.Paths.{start}
@@ -23,7 +24,7 @@ use Rattle.leaf.specs.BreakpointsLemmas.{Ruled, is_ruled}
 use Rattle.leaf.specs.Orders.{codes_in_range, last_in_range, ordered_cells, within_last}
 use Rattle.leaf.specs.Reaches.{ClosedTop, above_tail, closed_above, reach_early}
 use Rattle.leaf.specs.ReadingsLemmas.{answered_present, ok_present}
-use Rattle.leaf.specs.Spanned.{EndsWithin, Ordered, Spans, all_passing, ordered_kept, spanned_within, spans_each}
+use Rattle.leaf.specs.Spanned.{EndsWithin, Ordered, Spans, ordered_kept, spanned_within, spans_each}
 use Rattle.leaf.specs.Widths.{greatest_over, greatest_under}
 
 -- the span holds the outages of a cell within it

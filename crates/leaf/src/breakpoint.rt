@@ -1,5 +1,5 @@
 // A breakpoint of a tier: the lowest and the highest code that the converter may read at a time after the power went.
-ghost use Rattle.leaf.specs.Breakpoints.{follows, starts, within};
+ghost use Rattle.leaf.specs.Breakpoints.{breakpoint, follows, starts, within};
 ghost use Rattle.std.specs.Prelude.{◌≡◌};
 
 // The highest code of the converter.
@@ -16,6 +16,16 @@ pub struct Breakpoint {
 }
 
 impl Breakpoint {
+    pub fn new(time: u64, lowest: u16, highest: u16) -> Breakpoint
+        ensures { result ≡ breakpoint time lowest highest }
+    {
+        Breakpoint {
+            time,
+            lowest,
+            highest,
+        }
+    }
+
     // Whether it may be the first of a tier.
     pub(crate) fn starts(&self) -> bool
         ensures { result ≡ starts self.now }

@@ -4,6 +4,7 @@
 pub mod breakpoint;
 mod cell;
 pub mod counter;
+mod curve;
 mod reading;
 #[cfg(test)]
 mod tests;

@@ -9,11 +9,10 @@ use gauge::path::Path;
 pub(crate) fn reading(row: &[u16], channel: u16) -> Result<u16, GaugeFault>
     ensures { result ≡ read row.now channel Ok }
 {
-    match row.get(channel as usize) {
-        Some(reading) => Ok(*reading),
-        None => Err(GaugeFault::Missing {
+    row.get(channel as usize)
+        .copied()
+        .ok_or(GaugeFault::Missing {
             channel,
             path: Path::start(),
-        }),
-    }
+        })
 }

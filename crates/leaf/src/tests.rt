@@ -9,19 +9,11 @@ use interval::fault::RuleFault;
 use interval::interval::Interval;
 use std::test::Fail;
 
-fn point(time: u64, lowest: u16, highest: u16) -> Breakpoint {
-    Breakpoint {
-        time,
-        lowest,
-        highest,
-    }
-}
-
 // A tier on channel 1 with the breakpoints (0, 3000, 4095) and (10, 2000, 2500).
 fn falling(rt: &HostRuntime) -> Result<Tier, Fail> {
     let mut tier = Tier::new(rt.alloc(), 1)?;
-    tier.add(point(0, 3000, 4095))?;
-    tier.add(point(10, 2000, 2500))?;
+    tier.add(Breakpoint::new(0, 3000, 4095))?;
+    tier.add(Breakpoint::new(10, 2000, 2500))?;
     Ok(tier)
 }
 
@@ -29,10 +21,10 @@ fn falling(rt: &HostRuntime) -> Result<Tier, Fail> {
 fn the_first_breakpoint_has_rules(rt: HostRuntime) -> Result<(), Fail> {
     let mut tier = Tier::new(rt.alloc(), 1)?;
     let refused = Err(RuleFault { place: 0 });
-    assert_eq!(rt; tier.add(point(1, 3000, 4095)), refused);
-    assert_eq!(rt; tier.add(point(0, 3001, 3000)), refused);
-    assert_eq!(rt; tier.add(point(0, 3000, 4096)), refused);
-    assert_eq!(rt; tier.add(point(0, 4095, 4095)), Ok(()));
+    assert_eq!(rt; tier.add(Breakpoint::new(1, 3000, 4095)), refused);
+    assert_eq!(rt; tier.add(Breakpoint::new(0, 3001, 3000)), refused);
+    assert_eq!(rt; tier.add(Breakpoint::new(0, 3000, 4096)), refused);
+    assert_eq!(rt; tier.add(Breakpoint::new(0, 4095, 4095)), Ok(()));
     Ok(())
 }
 
@@ -40,17 +32,17 @@ fn the_first_breakpoint_has_rules(rt: HostRuntime) -> Result<(), Fail> {
 fn the_next_breakpoint_has_rules(rt: HostRuntime) -> Result<(), Fail> {
     let mut tier = falling(&rt)?;
     let refused = Err(RuleFault { place: 2 });
-    assert_eq!(rt; tier.add(point(9, 1000, 1500)), refused);
-    assert_eq!(rt; tier.add(point(10, 1000, 1500)), refused);
-    assert_eq!(rt; tier.add(point(100_000_001, 1000, 1500)), refused);
-    assert_eq!(rt; tier.add(point(20, 1501, 1500)), refused);
-    assert_eq!(rt; tier.add(point(20, 2001, 2500)), refused);
-    assert_eq!(rt; tier.add(point(20, 2000, 2501)), refused);
+    assert_eq!(rt; tier.add(Breakpoint::new(9, 1000, 1500)), refused);
+    assert_eq!(rt; tier.add(Breakpoint::new(10, 1000, 1500)), refused);
+    assert_eq!(rt; tier.add(Breakpoint::new(100_000_001, 1000, 1500)), refused);
+    assert_eq!(rt; tier.add(Breakpoint::new(20, 1501, 1500)), refused);
+    assert_eq!(rt; tier.add(Breakpoint::new(20, 2001, 2500)), refused);
+    assert_eq!(rt; tier.add(Breakpoint::new(20, 2000, 2501)), refused);
     // none of them has changed the tier
     assert_eq!(rt; tier.ceiling(), 10);
     assert_eq!(rt; tier.measure(&[0, 4095])?, Interval::between(0, 10));
     assert_eq!(rt; tier.measure(&[0, 1000])?, Interval::at_least(10));
-    assert_eq!(rt; tier.add(point(100_000_000, 2000, 2500)), Ok(()));
+    assert_eq!(rt; tier.add(Breakpoint::new(100_000_000, 2000, 2500)), Ok(()));
     assert_eq!(rt; tier.ceiling(), 100_000_000);
     Ok(())
 }
@@ -59,9 +51,12 @@ fn the_next_breakpoint_has_rules(rt: HostRuntime) -> Result<(), Fail> {
 fn a_tier_has_sixteen_breakpoints(rt: HostRuntime) -> Result<(), Fail> {
     let mut tier = Tier::new(rt.alloc(), 1)?;
     for time in 0..16 {
-        tier.add(point(time, 100, 200))?;
+        tier.add(Breakpoint::new(time, 100, 200))?;
     }
-    assert_eq!(rt; tier.add(point(16, 100, 200)), Err(RuleFault { place: 16 }));
+    assert_eq!(rt;
+        tier.add(Breakpoint::new(16, 100, 200)),
+        Err(RuleFault { place: 16 })
+    );
     assert_eq!(rt; tier.ceiling(), 15);
     Ok(())
 }
@@ -111,8 +106,8 @@ fn a_tier_reads_its_channel(rt: HostRuntime) -> Result<(), Fail> {
 #[test]
 fn a_code_that_no_cell_admits_is_impossible(rt: HostRuntime) -> Result<(), Fail> {
     let mut tier = Tier::new(rt.alloc(), 0)?;
-    tier.add(point(0, 3000, 3500))?;
-    tier.add(point(10, 1000, 1500))?;
+    tier.add(Breakpoint::new(0, 3000, 3500))?;
+    tier.add(Breakpoint::new(10, 1000, 1500))?;
     assert_eq!(rt; tier.measure(&[3500])?, Interval::between(0, 10));
     let impossible = GaugeFault::Impossible {
         channel: 0,

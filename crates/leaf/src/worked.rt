@@ -1,9 +1,9 @@
 // A worked tier: what the definitions give for it, and a tier that is just that.
 ghost use Rattle.gauge.specs.Meaning.{SameMeaning};
-ghost use Rattle.leaf.specs.Examples.{WorkedTier, breakpoint, worked_meaning};
+ghost use Rattle.leaf.specs.Examples.{WorkedTier, worked_meaning};
 ghost use Rattle.leaf.specs.TierData.{channel_of, points};
 ghost use Rattle.leaf.specs.Tiers.{tier_meaning};
-ghost use Rattle.leaf.specs.contracts.tier.measuring.TierGauge.TheImpl.{ghosts};
+ghost use Rattle.leaf.specs.contracts.tier.TierGauge.TheImpl.{ghosts};
 ghost use Rattle.std.specs.Prelude.{◌≡◌, IfOk};
 
 use crate::breakpoint::Breakpoint;
@@ -26,19 +26,9 @@ fn filled(heap: Global) -> Result<Tier, NoMemory>
 {
     let mut tier = Tier::new(heap, 0)?;
     // None of them is refused: all keep the rules.
-    let _ = tier.add(breakpoint(0, 4000, 4095));
-    let _ = tier.add(breakpoint(100, 3000, 3300));
-    let _ = tier.add(breakpoint(1000, 800, 1200));
-    let _ = tier.add(breakpoint(5000, 0, 60));
+    let _ = tier.add(Breakpoint::new(0, 4000, 4095));
+    let _ = tier.add(Breakpoint::new(100, 3000, 3300));
+    let _ = tier.add(Breakpoint::new(1000, 800, 1200));
+    let _ = tier.add(Breakpoint::new(5000, 0, 60));
     Ok(tier)
-}
-
-fn breakpoint(time: u64, lowest: u16, highest: u16) -> Breakpoint
-    ensures { result ≡ breakpoint time lowest highest }
-{
-    Breakpoint {
-        time,
-        lowest,
-        highest,
-    }
 }

@@ -1,17 +1,19 @@
--- `digits`: each turn counts one power more.
-use Rattle.std.proofs.Common.{arith}
-use Rattle.gauge.proofs.Paths.{digits_more, digits_same, power_fits}
+-- `digits`: every power asked for fits, and the chain counts those that the number reaches.
+use Rattle.std.proofs.Common.{◌∙◌, ap, rules, tests, arith, nat_le, ◌^◌}
+use Rattle.std.specs.List.{range_with_len}
+use Rattle.std.proofs.lemmas.Iterator.{YieldsList-from_range, serves_from_Range}
+use Rattle.std.proofs.lemmas.Iterator.Consumers.{YieldsList-at, YieldsList-from_filter, count_from_yields_List}
+use Rattle.std.proofs.lemmas.List.Sums.{length-filter}
+use Rattle.gauge.specs.Paths.{most_digits}
+use Rattle.gauge.proofs.Paths.{digits_counted, power_fits}
 use Rattle.gauge.proofs.path.digits.Goals as goal
-use Rattle.gauge.proofs.path.digits.Goals.{then-pow-number, else-pow-number}
 
-pub pow-requires : goal.pow-requires
-pow-requires c = omega (arith, power_fits c.loop-place.place (omega arith))
+pub count-requires-clause-can : goal.count-requires-clause-can
+count-requires-clause-can c = (tt, tt, serves_from_Range (λ x f called. search (rules, tests)) (λ k from below. search (rules, power_fits k (omega (arith, ap (λ r. r.end) c.filter.ensures.source)))))
 
-pub loop-place-preserved : goal.loop-place-preserved
-loop-place-preserved c =
-    let k = c.loop-place.place in
-    let n = c.args.number in
-    elim c.if-pow-number.branch [
-      | then-pow-number w ↦ (omega (arith, w.digits-is, digits_more k n (omega (arith, w.if-pow-number.true))), omega (arith, w.digits-is))
-      | else-pow-number w ↦ (omega (arith, w.digits-is, digits_same k n (omega (arith, w.if-pow-number.false))), omega (arith, w.digits-is))
-    ]
+pub returns : goal.returns
+returns c =
+    count_from_yields_List c.filter.result c.count.result c.count.ensures.ran
+    (YieldsList-from_filter _ (λ k. nat_le (4 ^ k) c.args.number) (YieldsList-at c.filter.ensures.source (YieldsList-from_range 0 most_digits most_digits (cc) (search arith))) c.filter.ensures.closure (λ k b f called. search (rules, tests)))
+    ∙ length-filter (λ k. nat_le (4 ^ k) c.args.number) (range_with_len 0 most_digits)
+    ∙ digits_counted most_digits c.args.number

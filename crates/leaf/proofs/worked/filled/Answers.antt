@@ -19,9 +19,9 @@ same_added bs cs b c same this = ap (λ bs. added bs b) same ∙ ap (added cs) t
 pub returns : goal.returns
 returns c =
     let none = c.in_ok-tier.ensures.makes in
-    let one = c.add.ensures.becomes ∙ same_added _ _ _ _ none.1 c.breakpoint.ensures in
-    let two = c.add-2.ensures.becomes ∙ same_added _ _ _ _ one c.breakpoint-2.ensures in
-    let three = c.add-3.ensures.becomes ∙ same_added _ _ _ _ two c.breakpoint-3.ensures in
-    let four : points c.add-4.new.self ≡ worked_points = c.add-4.ensures.becomes ∙ same_added _ _ _ _ three c.breakpoint-4.ensures in
+    let one = c.add.ensures.becomes ∙ same_added _ _ _ _ none.1 c.new-2.ensures in
+    let two = c.add-2.ensures.becomes ∙ same_added _ _ _ _ one c.new-3.ensures in
+    let three = c.add-3.ensures.becomes ∙ same_added _ _ _ _ two c.new-4.ensures in
+    let four : points c.add-4.new.self ≡ worked_points = c.add-4.ensures.becomes ∙ same_added _ _ _ _ three c.new-5.ensures in
     let channel : channel_of c.add-4.new.self ≡ 0 = c.add-4.ensures.same ∙ c.add-3.ensures.same ∙ c.add-2.ensures.same ∙ c.add.ensures.same ∙ none.0 in
     record { defined = worked_tier; holds = same_tier _ _ _ _ channel four }
