@@ -6,7 +6,6 @@ ghost use Rattle.std.specs.Prelude.{◌≡◌, MatchOption, MatchResult};
 use interval::fault::Refusal;
 use interval::interval::Interval;
 use interval::told::Told;
-use interval::top::Top;
 use std::fmt;
 
 // No `Option` or `Result`: it is what is printed, whichever of these the library gave.
@@ -73,13 +72,7 @@ impl Answer {
 impl fmt::Display for Answer {
     fn fmt<W: fmt::Write>(&self, f: &mut fmt::Formatter<W>) -> fmt::Result {
         match self {
-            Answer::Interval(interval) => {
-                let lower = interval.lower();
-                match interval.top() {
-                    Top::Closed(top) => write!(f, "[{lower}, {top}]"),
-                    Top::Open => write!(f, "[{lower}, open)"),
-                }
-            }
+            Answer::Interval(interval) => write!(f, "{interval}"),
             Answer::Time(time) => write!(f, "{time} ms"),
             Answer::Nothing => write!(f, "nothing"),
             Answer::Refused { number, told } => {

@@ -4,7 +4,9 @@ use native.Mathlib.Nat.{pow-le-pow_right}
 use Rattle.std.specs.List.{AllByRecursion, count_by, range_with_len}
 use Rattle.std.proofs.lemmas.List.Sums.{sum_by-cons}
 use Rattle.std.proofs.lemmas.Bool.{cases_lt, le-leb, lt-leb, lt-ltb, le-ltb, cond-true, cond-false}
-use Rattle.gauge.specs.Paths.{most_digits, digits_below, digits, in_front, places_number, IsPlace, PathLaws}
+use Rattle.gauge.specs.declared.path.Place.{Place}
+use Rattle.gauge.specs.declared.path.Place.TheVariants.{First, Second, Third}
+use Rattle.gauge.specs.Paths.{most_digits, place_digit, digits_below, digits, in_front, places_number, IsPlace, PathLaws}
 
 -- a later power of four is not less
 powers_rise : (i j : ℕ) → i ≤ j → 4 ^ i ≤ 4 ^ j
@@ -67,6 +69,12 @@ places_reach (p ∷ ps) ((some, _), places) j lt =
 places_digits : (ps : List ℕ) → AllByRecursion IsPlace ps → length ps ≤ most_digits → digits (places_number ps) ≡ length ps
 places_digits ps places few =
     omega (arith, counted (length ps) (places_number ps) (places_reach ps places) (places_short ps places) 15)
+
+-- the digit of a place is at most 3
+pub digit_small : (p : Place) → place_digit p ≤ 3
+digit_small First = omega arith
+digit_small Second = omega arith
+digit_small Third = omega arith
 
 -- with a digit up to 3 in front of it, it fits 32 bits
 pub in_front_fits : (p n : ℕ) → p ≤ 3 → digits n < most_digits → p * 4 ^ digits n + n < 4294967296

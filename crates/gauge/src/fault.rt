@@ -67,7 +67,8 @@ impl Refusal for GaugeFault {
     }
 }
 
-// The heap had no room for what was to be made. It is no refusal, so it has no number.
+// The heap had no room for what was to be made. It is no refusal, so it has no number. The project's rules name it, so it is
+// not the library's `AllocError`.
 #[derive(Clone, Copy, Debug)]
 pub struct NoMemory;
 

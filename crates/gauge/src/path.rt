@@ -1,6 +1,6 @@
 // Where in a pile of gauges a fault arose. A path is one number: its base-4 digits are the places of the parts on the
 // way down, the outermost first.
-ghost use Rattle.std.specs.Prelude.{◌≡◌, ◌≤◌};
+ghost use Rattle.std.specs.Prelude.{◌≡◌};
 ghost use Rattle.gauge.specs.Paths.{PathLaws, digits, in_front, place_digit, start};
 
 use std::marker::Model;
@@ -35,7 +35,7 @@ impl Model for Path {
 }
 
 impl Place {
-    // The digit that stands for the place.
+    // The digit that stands for the place. By name and not by `From`: the name says which number it is.
     pub fn digit(&self) -> u32
         ensures { result ≡ place_digit self.now }
     {
@@ -57,10 +57,11 @@ impl Path {
         ensures laws { PathLaws }
     {
         Path {
-            number: in_front(place.digit(), self.number),
+            number: in_front(place, self.number),
         }
     }
 
+    // The path as it is told; by name, as the digit is.
     pub fn number(&self) -> u32
         ensures { result ≡ self.now }
     {
@@ -68,17 +69,17 @@ impl Path {
     }
 }
 
-// The number with the digit in front of its own, unless it has fifteen already.
-fn in_front(digit: u32, number: u32) -> u32
-    requires { digit ≤ 3 }
-    ensures value { result ≡ in_front digit number }
+// The number with the digit of the place in front of its own, unless it has fifteen already.
+#[tactic(auto, using(crate::proofs::Paths::path_laws, crate::proofs::Paths::in_front_fits, crate::proofs::Paths::digit_small))]
+fn in_front(place: Place, number: u32) -> u32
+    ensures value { result ≡ in_front (place_digit place) number }
     ensures laws { PathLaws }
 {
     let digits = digits(number);
     if digits >= MOST_DIGITS {
         return number;
     }
-    digit * BASE.pow(digits) + number
+    place.digit() * BASE.pow(digits) + number
 }
 
 // How many base-4 digits the number has, counted up to fifteen.

@@ -12,8 +12,9 @@ use Rattle.interval.specs.Spans.{Span, holds}
 use Rattle.interval.specs.Meetings.{holders, open_tops, Quorate, quorate}
 use Rattle.interval.specs.Ends.{LeastPoint, GreatestPoint}
 use Rattle.interval.proofs.Counts.{counts_no_fewer}
+use Rattle.interval.proofs.Numbers.{max_either, min_either}
 use Rattle.interval.proofs.Nearest.{nearest_lower, lower_below, holds_from_lower, lower_of_one, nearest_top, top_above, no_top_below, top_of_one}
-use Rattle.interval.proofs.Lists.{all_given, all_le-fold_max, all_mapped, all_passing, fold_max_one, fold_min-le, fold_min-le_all, fold_min_one, le-fold_max}
+use Rattle.interval.proofs.Lists.{all_given, all_le-fold_max, all_mapped, all_passing, fold_keeps, fold_min-le, fold_min-le_all, le-fold_max}
 use Rattle.interval.proofs.Spans.{holds_decides}
 
 -- a top that no time passes is open
@@ -42,7 +43,7 @@ module _ (ss : List Span) (q : ℕ) where
       found (y ∷ ys) is =
           let enough = subst (AllByRecursion (λ t. quorate ss q t ≡ true)) is (kept_by_passes (quorate ss q) _) in
           let b = fold min y ys in (
-            fold_min_one (Quorate ss q) y ys (leb-true _ _ enough.0) (All-weaker _ _ (λ t passes. leb-true _ _ passes) ys enough.1),
+            fold_keeps min (Quorate ss q) (min_either (Quorate ss q)) y ys (leb-true _ _ enough.0) (All-weaker _ _ (λ t passes. leb-true _ _ passes) ys enough.1),
             All-weaker _ _ (λ s bound enough. bound (le-leb _ _ enough)) ss
                 (all_mapped (λ (s : Span). s.lower) _ ss (all_passing (quorate ss q) (λ t. b ≤ t) _ (subst (AllByRecursion (λ t. b ≤ t)) (sym is) (fold_min-le y ys, fold_min-le_all y ys)))),
           )
@@ -78,7 +79,7 @@ module _ (ss : List Span) (q : ℕ) where
       let ys = filter (quorate ss q) (filter_map (λ s. closed_time s.top) ss) in
       record {
         above = le-fold_max floor ys;
-        enough = λ enough. fold_max_one (Quorate ss q) floor ys enough (All-weaker _ _ (λ t passes. leb-true _ _ passes) ys (kept_by_passes (quorate ss q) _));
+        enough = λ enough. fold_keeps max (Quorate ss q) (λ m n here next. max_either (Quorate ss q) m n here (λ _. next)) floor ys enough (All-weaker _ _ (λ t passes. leb-true _ _ passes) ys (kept_by_passes (quorate ss q) _));
         greatest = All-weaker _ _ (λ s bound t closed enough. bound t closed (le-leb _ _ enough)) ss (all_given (λ s. closed_time s.top) _ ss (all_passing (quorate ss q) (λ t. t ≤ fold max floor ys) _ (all_le-fold_max floor ys)));
       }
 

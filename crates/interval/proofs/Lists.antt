@@ -1,15 +1,15 @@
 -- The least and the greatest of a list of numbers, and what holds of each element that a filter or a map gives.
-use Rattle.std.proofs.Common.{◌≡◌, ℕ, ◌≤◌, min, max, Bool, true, List, [], ◌∷◌, map, Some, None, Option, sym, ◌∙◌, subst, le_refl, arith}
-use Rattle.std.specs.List.{AllByRecursion, cons_option, filter, filter_map, fold}
+use Rattle.std.proofs.Common.{◌≡◌, ℕ, ◌≤◌, min, max, Bool, true, List, [], ◌∷◌, map, Some, None, Option, unwrap_or, sym, refl, ap, ◌∙◌, subst, le_refl, arith}
+use Rattle.std.specs.List.{AllByRecursion, cons_option, filter, filter_map, fold, reduce}
 use Rattle.std.proofs.lemmas.Bool.{cond_both, false≢true}
 use Rattle.std.proofs.lemmas.Option.{none-some}
-use Rattle.interval.proofs.Numbers.{min_either, max_either}
 
--- what holds of a number and of each of a list holds of the least of them, which passes none of them
-pub fold_min_one : (P : ℕ → Type 0) (b : ℕ) (ys : List ℕ) → P b → AllByRecursion P ys → P (fold min b ys)
-fold_min_one P b [] here rest = here
-fold_min_one P b (y ∷ ys) here (next, rest) = fold_min_one P (min b y) ys (min_either P b y here next) rest
+-- what f keeps of two numbers, it keeps of all of a list
+pub fold_keeps : (f : ℕ → ℕ → ℕ) (P : ℕ → Type 0) → ((m n : ℕ) → P m → P n → P (f m n)) → (b : ℕ) (ys : List ℕ) → P b → AllByRecursion P ys → P (fold f b ys)
+fold_keeps f P keeps b [] here rest = here
+fold_keeps f P keeps b (y ∷ ys) here (next, rest) = fold_keeps f P keeps (f b y) ys (keeps b y here next) rest
 
+-- the least of a number and those of a list passes none of them
 pub fold_min-le : (b : ℕ) (ys : List ℕ) → fold min b ys ≤ b
 fold_min-le b [] = le_refl b
 fold_min-le b (y ∷ ys) = omega (arith, fold_min-le (min b y) ys)
@@ -18,11 +18,7 @@ pub fold_min-le_all : (b : ℕ) (ys : List ℕ) → AllByRecursion (λ y. fold m
 fold_min-le_all b [] = tt
 fold_min-le_all b (y ∷ ys) = (omega (arith, fold_min-le (min b y) ys), fold_min-le_all (min b y) ys)
 
--- the same of the greatest of them, where what holds of the first is asked for only if it is the greatest
-pub fold_max_one : (P : ℕ → Type 0) (b : ℕ) (ys : List ℕ) → P b → AllByRecursion P ys → P (fold max b ys)
-fold_max_one P b [] here rest = here
-fold_max_one P b (y ∷ ys) here (next, rest) = fold_max_one P (max b y) ys (max_either P b y here (λ _. next)) rest
-
+-- and the greatest is passed by none
 pub le-fold_max : (b : ℕ) (ys : List ℕ) → b ≤ fold max b ys
 le-fold_max b [] = le_refl b
 le-fold_max b (y ∷ ys) = omega (arith, le-fold_max (max b y) ys)
@@ -30,6 +26,11 @@ le-fold_max b (y ∷ ys) = omega (arith, le-fold_max (max b y) ys)
 pub all_le-fold_max : (b : ℕ) (ys : List ℕ) → AllByRecursion (λ y. y ≤ fold max b ys) ys
 all_le-fold_max b [] = tt
 all_le-fold_max b (y ∷ ys) = (omega (arith, le-fold_max (max b y) ys), all_le-fold_max (max b y) ys)
+
+-- with 0 beside it, the greatest of a list, if it has any, is the greatest of 0 and the list
+pub max_given : (ys : List ℕ) → unwrap_or (reduce max ys) 0 ≡ fold max 0 ys
+max_given [] = refl
+max_given (y ∷ ys) = let same : y ≡ max 0 y = omega arith in ap (λ b. fold max b ys) same
 
 -- what holds of each element that is kept holds of each that passes
 pub all_passing : {X : Type 0} (p : X → Bool) (P : X → Type 0) (xs : List X) → AllByRecursion P (filter p xs) → AllByRecursion (λ x. p x ≡ true → P x) xs

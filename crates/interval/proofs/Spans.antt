@@ -1,11 +1,11 @@
 -- What a span holds: tests and facts, earlier times, and the lower of two tops.
-use Rattle.std.proofs.Common.{◌≡◌, ℕ, ◌≤◌, Decides, Ok, refl, arith}
-use Rattle.std.proofs.lemmas.Bool.{cond-true, leb-true, le-leb}
+use Rattle.std.proofs.Common.{◌≡◌, ℕ, ◌≤◌, min, max, Decides, refl, ap, ◌∙◌, arith}
+use Rattle.std.proofs.lemmas.Bool.{leb-true, le-leb}
 use Rattle.std.proofs.lemmas.Bool.Decides.{Decides-and}
 use Rattle.interval.specs.declared.top.Top.{Top}
 use Rattle.interval.specs.declared.top.Top.TheVariants.{Closed, Open}
 use Rattle.interval.specs.Tops.{AtMost, at_most}
-use Rattle.interval.specs.Spans.{Span, Holds, ends, holds, made_span}
+use Rattle.interval.specs.Spans.{Span, Holds, ends, holds}
 use Rattle.interval.specs.Shared.{least_top}
 use Rattle.interval.proofs.Numbers.{min_either}
 
@@ -14,9 +14,12 @@ at_most_decides : (x : ℕ) (t : Top) → Decides (at_most x t) (AtMost x t)
 at_most_decides x (Closed t) = (leb-true x t, le-leb x t)
 at_most_decides x Open = (λ _. tt, λ _. refl)
 
--- ends in order make a span
-pub made_in_order : (l : ℕ) (t : Top) → AtMost l t → made_span l t ≡ Ok (ends l t)
-made_in_order l t order = cond-true (at_most l t) _ _ ((at_most_decides l t).1 order)
+-- between two times in order run the two themselves
+pub between_in_order : (l t : ℕ) → l ≤ t → ends (min l t) (Closed (max l t)) ≡ ends l (Closed t)
+between_in_order l t order =
+    let low : min l t ≡ l = omega arith in
+    let high : max l t ≡ t = omega arith in
+    ap (λ k. ends k (Closed (max l t))) low ∙ ap (λ u. ends l (Closed u)) high
 
 -- the test of a span and its fact agree
 pub holds_decides : (s : Span) (x : ℕ) → Decides (holds s x) (Holds s x)

@@ -18,11 +18,7 @@ scaled x p = (x * p + (million - 1)) / million
 unfoldable pub allowance : ℕ → ℕ → ℕ
 allowance x p = scaled x p
 
--- the tolerance, or the refusal of one out of its range
-abbrev pub made_tolerance : ℕ → Result ℕ RuleFault
-made_tolerance p = cond (nat_le p greatest_tolerance) (Ok p) (Err (out_of_rule p))
-
--- the allowance at the tolerance, or its refusal
+-- the allowance, or the refusal of a tolerance out of its range
 abbrev pub allowed : ℕ → ℕ → Result ℕ RuleFault
 allowed x p = cond (nat_le p greatest_tolerance) (Ok (allowance x p)) (Err (out_of_rule p))
 

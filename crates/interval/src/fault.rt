@@ -5,7 +5,7 @@ ghost use Rattle.interval.specs.Told.{told_numbers};
 
 use crate::told::Told;
 
-// The numbers of the refusals. No enum has them all: they are told as numbers, and each crate above adds its own.
+// The numbers of the refusals. No enum has them all: they are told as numbers, and a crate above adds its own.
 pub const NO_MEETING: u32 = 5;
 
 const OUT_OF_RULE: u32 = 19;

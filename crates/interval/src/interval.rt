@@ -7,6 +7,7 @@ ghost use Rattle.interval.specs.declared.top.Top.TheVariants.{Closed, Open};
 
 use crate::fault::RuleFault;
 use crate::top::Top;
+use std::fmt;
 use std::marker::Model;
 
 #[derive(Clone, Copy, PartialEq, Eq, Debug)]
@@ -96,5 +97,16 @@ impl Interval {
         let lower = self.lower.max(other.lower);
         let top = self.top.min(other.top);
         Interval::new(lower, top).ok()
+    }
+}
+
+// As `[lower, top]`, or as `[lower, open)`.
+impl fmt::Display for Interval {
+    fn fmt<W: fmt::Write>(&self, f: &mut fmt::Formatter<W>) -> fmt::Result {
+        let lower = self.lower;
+        match self.top {
+            Top::Closed(top) => write!(f, "[{lower}, {top}]"),
+            Top::Open => write!(f, "[{lower}, open)"),
+        }
     }
 }

@@ -11,6 +11,7 @@ use crate::top::Top;
 pub const MOST_INTERVALS: usize = 8;
 
 // The smallest interval that holds every time lying in at least `quorum` of the intervals.
+#[tactic(auto, using(crate::proofs::Meetings::meeting_laws))]
 pub fn meeting(intervals: &[Interval], quorum: u32) -> Result<Interval, MeetingFault>
     ensures answers { MeetingAnswer intervals.now quorum result }
     ensures laws { MeetingLaws }
@@ -19,11 +20,11 @@ pub fn meeting(intervals: &[Interval], quorum: u32) -> Result<Interval, MeetingF
     if !in_rule(intervals.len(), enough) {
         return Err(MeetingFault::OutOfRule { quorum });
     }
-    let poll = Poll {
+    let ballot = Ballot {
         intervals,
         quorum: enough,
     };
-    poll.found().ok_or(MeetingFault::Empty)
+    ballot.found().ok_or(MeetingFault::Empty)
 }
 
 // Whether a meeting may be asked for of so many intervals at this quorum.
@@ -35,13 +36,13 @@ fn in_rule(count: usize, quorum: usize) -> bool
 
 // Intervals that are to meet, and how many of them must hold a time.
 #[derive(Clone, Copy)]
-struct Poll<'a> {
+struct Ballot<'a> {
     intervals: &'a [Interval],
     quorum: usize,
-    ghost some: { 0 < quorum },
+    ghost positive: { 0 < quorum },
 }
 
-impl<'a> Poll<'a> {
+impl<'a> Ballot<'a> {
     // The meeting, or none where no time lies in enough of the intervals.
     fn found(&self) -> Option<Interval>
         ensures finds { Found self.now.intervals.now self.now.quorum result }

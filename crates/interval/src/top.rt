@@ -11,7 +11,7 @@ pub enum Top {
 }
 
 impl Top {
-    // The time at which the top is closed, or none where it is open.
+    // The time at which the top is closed, or none where it is open. By name and not by `From`: the name says what it is.
     pub fn closed_time(&self) -> Option<u64>
         ensures { result ≡ closed_time self.now }
     {

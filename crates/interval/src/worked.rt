@@ -24,6 +24,7 @@ pub fn worked_meeting() -> Result<Interval, MeetingFault>
 }
 
 // The allowance of 400 ms at 100 ppm.
+#[tactic(auto, unfolding(crate::specs::Allowances::allowance))]
 pub fn worked_allowance() -> Result<u64, RuleFault>
     ensures defined { WorkedAllowance }
     ensures answers { result ≡ Ok 1 }

@@ -2,6 +2,7 @@
 use Rattle.std.proofs.Common.{◌≡◌, ℕ, suc, ◌+◌, ◌<◌, ltb, ◌⊎◌, List, [], ◌∷◌, length, Some, None, Option, sym, refl, ap, ◌∙◌, subst, inl, inr, ⊎_elim, le_refl, arith}
 use Rattle.std.proofs.ByRecursion.{has_push}
 use Rattle.std.proofs.lemmas.Bool.{cases_lt, cond-false, le-ltb}
+use Rattle.std.specs.Option.{ok_or}
 use Rattle.interval.specs.declared.top.Top.{Top}
 use Rattle.interval.specs.declared.top.Top.TheVariants.{Closed, Open}
 use Rattle.interval.specs.Spans.{Holds, Span, ends}
@@ -15,7 +16,7 @@ use Rattle.leaf.specs.Cells.{Admits, cell_between, cells, closed_cells, outages,
 use Rattle.leaf.specs.Readings.{reading_at}
 use Rattle.leaf.specs.Searches.{admitting}
 use Rattle.leaf.specs.TierLaws.{InCell, InTail, TierLaws, point}
-use Rattle.leaf.specs.Tiers.{CodeAllowed, by_code, closed_width, code_answer, or_fault, spanned, tier_width}
+use Rattle.leaf.specs.Tiers.{CodeAllowed, by_code, closed_width, code_answer, spanned, tier_width}
 use Rattle.leaf.specs.BreakpointsLemmas.{Ruled, is_ruled}
 use Rattle.leaf.proofs.Candidates.{width_over}
 use Rattle.leaf.proofs.Cells.{cell_at, cells_length, tail_at}
@@ -80,7 +81,7 @@ tier_laws = record {
         λ none.
             present
             ∙ scaled bs ruled channel v on
-            ∙ ap (λ o. or_fault o (Impossible channel v start)) (none_admits bs v ruled (λ d allowed. none d (has, allowed)) _ refl),
+            ∙ ap (λ o. ok_or o (Impossible channel v start)) (none_admits bs v ruled (λ d allowed. none d (has, allowed)) _ refl),
       );
   off_scale = λ channel bs row rule has off.
       let v = reading_at row channel in

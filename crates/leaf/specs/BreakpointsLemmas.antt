@@ -1,14 +1,14 @@
 -- What the rules of breakpoints say: the tests as facts.
-use Rattle.std.specs.Prelude.{◌≡◌, ℕ, ◌+◌, ◌<◌, ◌≤◌, true, ◌&&◌, List, [], ◌∷◌, ◌++◌, length, nat_le, slice_index_or}
+use Rattle.std.specs.Prelude.{◌≡◌, ℕ, ◌+◌, ◌<◌, ◌≤◌, true, false, ◌&&◌, List, [], ◌∷◌, ◌++◌, length, nat_le, slice_index_or}
 use Rattle.std.proofs.Common.{sym, ap, ◌∙◌, arith}
 use Rattle.std.proofs.lemmas.List.{length_push, map-id}
-use Rattle.std.proofs.Math.Bool.{and-true}
-use Rattle.std.proofs.lemmas.Bool.{and_parts, le-leb}
+use Rattle.std.proofs.lemmas.Bool.{and_parts, and_right, le-leb, leb-true, lt-leb}
 use Rattle.std.proofs.lemmas.Bool.Decides.{nat_tests}
 use Rattle.leaf.specs.declared.breakpoint.Breakpoint.{Breakpoint}
 use Rattle.leaf.specs.Lasts.{last_of}
 use Rattle.leaf.specs.Breakpoints.{chained, follows, in_rule, latest_time, most_breakpoints, ordered, starts, top_code, within}
 use Rattle.leaf.specs.LastsLemmas.{last_read}
+use Rattle.std.proofs.Math.Bool.{and-true}
 
 -- a breakpoint by itself: its codes are in order and on the scale, and it is early enough
 pub record Within (b : Breakpoint) : Type 0 where
@@ -70,6 +70,16 @@ module _ (bs : List Breakpoint) (b : Breakpoint) where
   room_left : length bs < most_breakpoints → ordered (bs ++ b ∷ []) ≡ in_rule (bs ++ b ∷ [])
   room_left few =
       sym (ap (λ t. ordered (bs ++ b ∷ []) && t) (le-leb _ most_breakpoints (omega (arith, length_push bs b))) ∙ and-true _)
+
+  -- and with none, nothing more is in rule
+  pub full_refuses : most_breakpoints ≤ length bs → false ≡ in_rule (bs ++ b ∷ [])
+  full_refuses full = sym (and_right (ordered (bs ++ b ∷ [])) _ (lt-leb _ most_breakpoints (omega (arith, length_push bs b))))
+
+  -- so where one more is in rule, there is room for it
+  pub room_for : in_rule (bs ++ b ∷ []) ≡ true → length bs < most_breakpoints
+  room_for rule =
+      let few = leb-true (length (bs ++ b ∷ [])) most_breakpoints (and_parts (ordered (bs ++ b ∷ [])) _ rule).1 in
+      omega (arith, length_push bs b)
 
 -- a breakpoint after others is in rule if it may follow the last
 pub next_in_rule : (bs : List Breakpoint) (b last : Breakpoint) (k : ℕ) → in_rule bs ≡ true → length bs < most_breakpoints → k + 1 ≡ length bs → last ≡ slice_index_or bs k last → follows last b ≡ in_rule (bs ++ b ∷ [])

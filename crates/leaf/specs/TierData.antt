@@ -1,5 +1,5 @@
 -- What a tier holds: its channel and its breakpoints.
-use Rattle.std.specs.Prelude.{ℕ, List}
+use Rattle.std.specs.Prelude.{ℕ, List, vec_items}
 use Rattle.leaf.specs.declared.breakpoint.Breakpoint.{Breakpoint}
 use Rattle.leaf.specs.declared.tier.Tier.{Tier}
 
@@ -7,4 +7,4 @@ abbrev pub channel_of : Tier → ℕ
 channel_of t = t.channel
 
 abbrev pub points : Tier → List Breakpoint
-points t = t.curve
+points t = vec_items t.curve.breakpoints

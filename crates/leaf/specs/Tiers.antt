@@ -1,5 +1,6 @@
 -- The meaning of a tier.
-use Rattle.std.specs.Prelude.{ℕ, zero, suc, ◌-◌, ◌<◌, max, cond, List, [], ◌∷◌, length, Some, None, Ok, Err, filter, Option, Result, nat_le, nat_lt}
+use Rattle.std.specs.Prelude.{ℕ, zero, suc, ◌-◌, ◌<◌, max, cond, List, [], ◌∷◌, length, Some, None, Err, filter, Option, Result, nat_le, nat_lt}
+use Rattle.std.specs.Option.{ok_or}
 use Rattle.std.specs.List.{ContainsAt}
 use Rattle.interval.specs.declared.top.Top.TheVariants.{Closed, Open}
 use Rattle.interval.specs.Spans.{Span, ends, Holds}
@@ -28,14 +29,9 @@ spanned (c ∷ cs) = Some (ends c.from (last_of c cs).to)
 abbrev pub by_code : List Breakpoint → ℕ → Option Span
 by_code bs v = spanned (admitting v (cells bs))
 
--- the span, or the fault where there is none
-abbrev pub or_fault : Option Span → GaugeFault → Result Span GaugeFault
-or_fault (Some s) fault = Ok s
-or_fault None fault = Err fault
-
 -- what the code v is answered
 abbrev pub code_answer : ℕ → List Breakpoint → ℕ → Result Span GaugeFault
-code_answer channel bs v = cond (nat_le v top_code) (or_fault (by_code bs v) (Impossible channel v start)) (Err (OffScale channel v start))
+code_answer channel bs v = cond (nat_le v top_code) (ok_or (by_code bs v) (Impossible channel v start)) (Err (OffScale channel v start))
 
 -- the time of the last breakpoint whose lowest code is above the highest code of the last breakpoint, else 0
 abbrev pub tier_reach : List Breakpoint → ℕ

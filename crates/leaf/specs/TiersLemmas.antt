@@ -1,6 +1,7 @@
 -- A tier shows what a gauge must.
 use Rattle.std.specs.Prelude.{◌≡◌, ℕ, suc, ◌+◌, ◌<◌, ◌≤◌, true, List, Some, None, Ok, Err, Option, nat_le, refl}
 use Rattle.std.proofs.Common.{sym, subst, ◌∙◌, ⊎_elim, arith, le_trans}
+use Rattle.std.specs.Option.{ok_or}
 use Rattle.std.specs.List.{ContainsAt, AllByRecursion}
 use Rattle.std.proofs.ByRecursion.{all-has, all_has_itself, all_kept_by, All-weaker, kept_by_passes}
 use Rattle.std.proofs.lemmas.Bool.{and_from, and_parts, cases_lt, cond-false, cond-true, le-leb, leb-true, lt-leb}
@@ -19,7 +20,7 @@ use Rattle.leaf.specs.Breakpoints.{in_rule, top_code}
 use Rattle.leaf.specs.Cells.{Admits, admits, cells, last_time, outages}
 use Rattle.leaf.specs.Readings.{reading_at}
 use Rattle.leaf.specs.Searches.{admitting}
-use Rattle.leaf.specs.Tiers.{by_code, closed_width, code_answer, or_fault, tier_meaning, tier_width}
+use Rattle.leaf.specs.Tiers.{by_code, closed_width, code_answer, tier_meaning, tier_width}
 use Rattle.leaf.specs.BreakpointsLemmas.{Ruled, is_ruled}
 use Rattle.leaf.specs.Orders.{codes_in_range, last_in_range, ordered_cells, within_last}
 use Rattle.leaf.specs.Reaches.{ClosedTop, above_tail, closed_above, reach_early}
@@ -28,7 +29,7 @@ use Rattle.leaf.specs.Spanned.{EndsWithin, Ordered, Spans, ordered_kept, spanned
 use Rattle.leaf.specs.Widths.{greatest_over, greatest_under}
 
 -- the span holds the outages of a cell within it
-held : (c : Cell) (d : ℕ) (o : Option Span) (fault : GaugeFault) → Spans c o → Holds (outages c) d → AnsweredBy (λ s. Holds s d) (or_fault o fault)
+held : (c : Cell) (d : ℕ) (o : Option Span) (fault : GaugeFault) → Spans c o → Holds (outages c) d → AnsweredBy (λ s. Holds s d) (ok_or o fault)
 held c d None fault spans holds = absurd spans
 held c d (Some s) fault spans holds = (le_trans spans.0 holds.0, spans.1 d holds.1)
 
@@ -38,7 +39,7 @@ closes w l (Closed t) closed narrow = omega arith
 closes w l Open closed narrow = absurd closed
 
 -- so an answer that spans a cell and is closed is no wider than w, if its width is not
-closed : (c : Cell) (w : ℕ) (o : Option Span) (fault : GaugeFault) → Spans c o → ClosedTop o → closed_width o ≤ w → AnsweredBy (λ (s : Span). ClosedBy (s.lower + w) s.top) (or_fault o fault)
+closed : (c : Cell) (w : ℕ) (o : Option Span) (fault : GaugeFault) → Spans c o → ClosedTop o → closed_width o ≤ w → AnsweredBy (λ (s : Span). ClosedBy (s.lower + w) s.top) (ok_or o fault)
 closed c w None fault spans top narrow = absurd spans
 closed c w (Some s) fault spans top narrow = closes w s.lower s.top top narrow
 
@@ -53,7 +54,7 @@ width_within b None within = omega arith
 width_within b (Some s) within = top_narrow b s.lower s.top within.2
 
 -- an answer is the span
-ok_some : (o : Option Span) (fault : GaugeFault) (s : Span) → or_fault o fault ≡ Ok s → o ≡ Some s
+ok_some : (o : Option Span) (fault : GaugeFault) (s : Span) → ok_or o fault ≡ Ok s → o ≡ Some s
 ok_some None fault s answered = let z : ◌≡◌ {A = ℕ} 0 1 = cc in absurd (omega arith)
 ok_some (Some t) fault s answered = cc
 
@@ -99,7 +100,7 @@ module _ (bs : List Breakpoint) (ruled : Ruled bs) where
   found_in_order v l top found = (subst (EndsWithin (last_time bs)) found (ends_within v)).0
 
   -- a code on the scale gets what the cells say
-  pub scaled : (channel v : ℕ) → v ≤ top_code → code_answer channel bs v ≡ or_fault (by_code bs v) (Impossible channel v start)
+  pub scaled : (channel v : ℕ) → v ≤ top_code → code_answer channel bs v ≡ ok_or (by_code bs v) (Impossible channel v start)
   scaled channel v on = cond-true (nat_le v top_code) _ _ (le-leb _ _ on)
 
   -- any other is off the scale

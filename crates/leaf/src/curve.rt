@@ -1,10 +1,7 @@
 // The curve of a tier: breakpoints whose times rise and whose codes never do, the cells between them, and the search
 // among these for those that admit a code.
-ghost use Rattle.leaf.specs.Breakpoints.{add_answer, added, in_rule, top_code};
-ghost use Rattle.leaf.specs.Cells.{cells, last_highest, last_time, tail};
-ghost use Rattle.leaf.specs.Searches.{FirstAdmitting, LastAdmitting};
-ghost use Rattle.leaf.specs.Tiers.{by_code, closed_width, tier_reach, tier_width};
-ghost use Rattle.std.specs.Prelude.{◌≡◌, ◌<◌, ◌≤◌, true, [], ◌∷◌, ◌++◌, IfOk, length, slice_index_or};
+ghost use Rattle.leaf.specs.Breakpoints.{in_rule, most_breakpoints};
+ghost use Rattle.std.specs.Prelude.{◌≡◌, ◌≤◌, true, vec_capacity};
 
 use crate::breakpoint::{Breakpoint, TOP_CODE};
 use crate::cell::Cell;
@@ -13,60 +10,55 @@ use interval::fault::RuleFault;
 use interval::interval::Interval;
 use interval::top::Top;
 use std::alloc::Global;
-use std::marker::Model;
 
 // The most breakpoints of a curve.
 const MOST_BREAKPOINTS: usize = 16;
 
-// A contract sees a curve as its breakpoints. It has room for all that it may get.
 #[derive(Drop)]
 pub struct Curve {
-    points: Vec<Breakpoint>,
-}
-
-impl Model for Curve {
-    ghost use Rattle.leaf.specs.Breakpoints.{in_rule, most_breakpoints};
-    ghost use Rattle.leaf.specs.declared.breakpoint.Breakpoint.{Breakpoint};
-    ghost use Rattle.std.specs.Prelude.{◌≡◌, ◌≤◌, List, true, vec_capacity};
-
-    ghost Value = { List Breakpoint };
-
-    ghost view = { λ curve. curve.points.items };
-
-    ghost invariant = { λ curve. (in_rule curve.points.items ≡ true) × (most_breakpoints ≤ vec_capacity curve.points) };
+    breakpoints: Vec<Breakpoint>,
+    ghost ruled: { in_rule breakpoints.items ≡ true },
+    ghost room: { most_breakpoints ≤ vec_capacity breakpoints },
 }
 
 impl Curve {
+    ghost use Rattle.leaf.specs.Breakpoints.{add_answer, added};
+    ghost use Rattle.leaf.specs.Cells.{cells, last_highest, last_time, tail};
+    ghost use Rattle.leaf.specs.Searches.{FirstAdmitting, LastAdmitting};
+    ghost use Rattle.leaf.specs.Tiers.{by_code, closed_width, tier_reach, tier_width};
+    ghost use Rattle.std.specs.Prelude.{◌<◌, [], ◌∷◌, ◌++◌, IfOk, length, slice_index_or};
+
     // A curve with no breakpoints yet.
     pub(crate) fn new(heap: Global) -> Result<Curve, NoMemory>
-        ensures { IfOk result (λ curve. curve ≡ []) }
+        ensures { IfOk result (λ curve. curve.breakpoints.items ≡ []) }
     {
-        let points = Vec::with_capacity(heap, MOST_BREAKPOINTS)?;
-        Ok(Curve { points })
+        let breakpoints = Vec::with_capacity(heap, MOST_BREAKPOINTS)?;
+        Ok(Curve { breakpoints })
     }
 
     // One breakpoint more. One that breaks the rules is refused, with the number that it would have had.
     pub(crate) fn add(&mut self, breakpoint: Breakpoint) -> Result<(), RuleFault>
-        ensures answers { result ≡ add_answer self.old breakpoint }
-        ensures becomes { self.new ≡ added self.old breakpoint }
+        ensures answers { result ≡ add_answer self.old.breakpoints.items breakpoint }
+        ensures becomes { self.new.breakpoints.items ≡ added self.old.breakpoints.items breakpoint }
     {
         if !self.may_add(&breakpoint) {
             return Err(RuleFault {
-                place: self.points.len() as u64,
+                place: self.breakpoints.len() as u64,
             });
         }
-        self.points.push_reserved(breakpoint);
+        self.breakpoints.push_reserved(breakpoint);
         Ok(())
     }
 
     // Whether the breakpoints keep the rules with this one after them.
+    #[tactic(auto, using(crate::specs::BreakpointsLemmas::next_in_rule))]
     fn may_add(&self, breakpoint: &Breakpoint) -> bool
-        ensures { result ≡ in_rule (self.now ++ breakpoint.now ∷ []) }
+        ensures { result ≡ in_rule (self.now.breakpoints.items ++ breakpoint.now ∷ []) }
     {
-        if self.points.len() >= MOST_BREAKPOINTS {
+        if self.breakpoints.len() >= MOST_BREAKPOINTS {
             return false;
         }
-        match self.points.last() {
+        match self.breakpoints.last() {
             Some(last) => breakpoint.follows(last),
             None => breakpoint.starts(),
         }
@@ -74,21 +66,22 @@ impl Curve {
 
     // The time of the last breakpoint, or 0.
     pub(crate) fn last_time(&self) -> u64
-        ensures { result ≡ last_time self.now }
+        ensures { result ≡ last_time self.now.breakpoints.items }
     {
-        self.points.last().map_or(0, |last| last.time)
+        self.breakpoints.last().map_or(0, |last| last.time)
     }
 
     // The highest code of the last breakpoint, or the highest of all codes.
     fn last_highest(&self) -> u16
-        ensures highest { result ≡ last_highest self.now }
-        ensures on_scale { result ≤ top_code }
+        ensures { result ≡ last_highest self.now.breakpoints.items }
     {
-        self.points.last().map_or(TOP_CODE, |last| last.highest)
+        self.breakpoints
+            .last()
+            .map_or(TOP_CODE, |last| last.highest)
     }
 
     fn tail(&self) -> Cell
-        ensures { result ≡ tail self.now }
+        ensures { result ≡ tail self.now.breakpoints.items }
     {
         Cell {
             from: self.last_time(),
@@ -99,37 +92,33 @@ impl Curve {
     }
 
     // How many cells there are, the tail counted.
+    #[tactic(auto, using(crate::proofs::Cells::cells_length))]
     fn cell_count(&self) -> usize
-        ensures { result ≡ length (cells self.now) }
+        ensures { result ≡ length (cells self.now.breakpoints.items) }
     {
-        self.points.len().max(1)
+        self.breakpoints.len().max(1)
     }
 
-    // Cell number `i`; the tail is the last. The breakpoints that it lies between keep the rules.
+    // Cell number `i`; the tail is the last, and stands for all past it.
+    #[tactic(auto, using(crate::proofs::Cells::cell_from, crate::proofs::Cells::tail_from))]
     fn cell(&self, i: usize) -> Cell
-        requires { i < length (cells self.now) }
-        ensures cell { result ≡ slice_index_or (cells self.now) i result }
-        ensures ruled { in_rule self.now ≡ true }
+        ensures { result ≡ slice_index_or (cells self.now.breakpoints.items) i (tail self.now.breakpoints.items) }
     {
-        let points = self.points.as_slice();
-        if i + 1 < points.len() {
-            let start = points[i];
-            let end = points[i + 1];
-            Cell {
+        match self.breakpoints.get(i..) {
+            Some([start, end, ..]) => Cell {
                 from: start.time,
                 to: Top::Closed(end.time),
                 lowest: end.lowest,
                 highest: start.highest,
-            }
-        } else {
-            self.tail()
+            },
+            _ => self.tail(),
         }
     }
 
     // The first cell that admits the code, found by a `loop` that breaks with its number: the project fixes this form
-    // (docs/DECISIONS.md).
+    // (docs/DECISIONS.md). Cells are tried one by one: their codes overlap, so they are in no order to look a code up by.
     fn first_admitting(&self, code: u16) -> Option<usize>
-        ensures { FirstAdmitting code (cells self.now) result }
+        ensures { FirstAdmitting code (cells self.now.breakpoints.items) result }
     {
         let count = self.cell_count();
         let mut at = 0;
@@ -145,38 +134,37 @@ impl Curve {
         Some(first)
     }
 
-    // The last cell from `first` on that admits the code, or `first` itself. As a chain it did not prove: the lemmas on
-    // `filter` ask what it tells of every number, and a cell is known only at a number in range.
+    // The last cell from `first` on that admits the code, or `first` itself.
     fn last_admitting(&self, code: u16, first: usize) -> usize
-        requires { first < length (cells self.now) }
-        ensures { LastAdmitting code (cells self.now) first result }
+        requires { first < length (cells self.now.breakpoints.items) }
+        ensures { LastAdmitting code (cells self.now.breakpoints.items) first result }
     {
-        let mut last = first;
-        for i in first..self.cell_count() {
-            if self.cell(i).admits(code) {
-                last = i;
-            }
-        }
-        last
+        (first..self.cell_count())
+            .filter(|&i| self.cell(i).admits(code))
+            .last()
+            .unwrap_or(first)
     }
 
     // From the start of the first cell that admits the code to the end of the last, or none where none does.
     pub(crate) fn by_code(&self, code: u16) -> Option<Interval>
-        ensures { result ≡ by_code self.now code }
+        ensures { result ≡ by_code self.now.breakpoints.items code }
     {
         let first = self.first_admitting(code)?;
         let last = self.last_admitting(code, first);
         let start = self.cell(first);
         let end = self.cell(last);
-        Interval::new(start.from, end.to).ok()
+        Some(match end.to {
+            Top::Closed(top) => Interval::between(start.from, top),
+            Top::Open => Interval::at_least(start.from),
+        })
     }
 
     // The time of the last breakpoint whose lowest code is above every code that may come from the tail, or 0.
     pub(crate) fn last_time_above_tail(&self) -> u64
-        ensures { result ≡ tier_reach self.now }
+        ensures { result ≡ tier_reach self.now.breakpoints.items }
     {
         let tail_highest = self.last_highest();
-        self.points
+        self.breakpoints
             .iter()
             .filter(|breakpoint| tail_highest < breakpoint.lowest)
             .map(|breakpoint| breakpoint.time)
@@ -187,18 +175,19 @@ impl Curve {
     // The greatest width of a closed answer, over all codes. Only codes above those of the tail get a closed top. Of
     // these, the lowest that a cell admits has the widest answer of all that begin with this cell, so it is tried alone.
     pub(crate) fn greatest_width(&self) -> u64
-        ensures { result ≡ tier_width self.now }
+        ensures { result ≡ tier_width self.now.breakpoints.items }
     {
         let closing = self.last_highest() + 1;
-        self.points
+        self.breakpoints
             .iter()
             .map(|breakpoint| self.closed_width(breakpoint.lowest.max(closing)))
-            .fold(0, |greatest, width| greatest.max(width))
+            .max()
+            .unwrap_or(0)
     }
 
     // How far the top of the answer to the code is above the lower end; 0 where it is open or there is none.
     fn closed_width(&self, code: u16) -> u64
-        ensures { result ≡ closed_width (by_code self.now code) }
+        ensures { result ≡ closed_width (by_code self.now.breakpoints.items code) }
     {
         let Some(interval) = self.by_code(code) else {
             return 0;

@@ -1,6 +1,5 @@
 // A remanence tier: a capacitor that drains while the power is gone, read as a code.
-ghost use Rattle.leaf.specs.Breakpoints.{in_rule};
-ghost use Rattle.std.specs.Prelude.{◌≡◌, true};
+ghost use Rattle.std.specs.Prelude.{◌≡◌};
 
 use crate::breakpoint::{Breakpoint, TOP_CODE};
 use crate::curve::Curve;
@@ -12,12 +11,12 @@ use interval::fault::RuleFault;
 use interval::interval::Interval;
 use std::alloc::Global;
 
-// The rules stand in the value, beside the invariant of the curve: what a gauge owes is proved of the value alone.
+// A tier has no model: what a gauge owes is proved of its value, and a model would hide the rules that the curve keeps. So
+// public contracts read its two parts by `channel_of` and `points`.
 #[derive(Drop)]
 pub struct Tier {
     channel: u16,
     curve: Curve,
-    ghost ruled: { in_rule curve ≡ true },
 }
 
 impl Tier {
@@ -30,6 +29,7 @@ impl Tier {
     ghost use Rattle.std.specs.Prelude.{[], IfOk};
 
     // A tier on the channel with no breakpoints, and room for all that it may get.
+    #[tactic(auto, using(crate::proofs::TierLaws::tier_laws, crate::proofs::SameTiers::same_tier))]
     pub fn new(heap: Global, channel: u16) -> Result<Tier, NoMemory>
         ensures makes { IfOk result (λ tier. (channel_of tier ≡ channel) × (points tier ≡ []) × SameMeaning (ghosts.meaning tier) (tier_meaning channel [])) }
         ensures laws { TierLaws }
@@ -77,7 +77,7 @@ impl Gauge for Tier {
 
     ghost meaning = { λ tier. tier_meaning tier.channel (points tier) };
 
-    ghost shows = { λ tier. let shown = ruled_shows tier.channel (points tier) tier.ruled in Prim.search rules };
+    ghost shows = { λ tier. let shown = ruled_shows tier.channel (points tier) tier.curve.ruled in Prim.search rules };
 
     fn measure(&self, row: &[u16]) -> Result<Interval, GaugeFault> {
         let code = reading(row, self.channel)?;

@@ -1,20 +1,31 @@
 -- `by_code`: the first and the last cell that admit the code make the span, and its ends are in order.
-use Rattle.std.proofs.Common.{◌≡◌, Some, sym, ap, ◌∙◌}
-use Rattle.std.specs.Result.{result_ok}
+use Rattle.std.proofs.Common.{◌≡◌, Some, get_or, rules, sym, ap, ◌∙◌, subst}
 use Rattle.interval.specs.Spans.{ends}
-use Rattle.interval.proofs.Spans.{made_in_order}
-use Rattle.leaf.specs.Cells.{cells}
+use Rattle.interval.specs.Tops.{AtMost}
+use Rattle.interval.proofs.Spans.{between_in_order}
+use Rattle.leaf.specs.declared.cell.Cell.{Cell}
+use Rattle.leaf.specs.Cells.{cells, tail}
 use Rattle.leaf.specs.Tiers.{by_code}
 use Rattle.leaf.specs.BreakpointsLemmas.{is_ruled}
 use Rattle.leaf.specs.TiersLemmas.{found_in_order}
 use Rattle.leaf.proofs.Searches.{spanned_found}
+use Rattle.leaf.proofs.curve.Curve.by_code.Goals.{in-Closed, in-Open}
 use Rattle.leaf.proofs.curve.Curve.by_code.Goals as goal
 
 pub returns : goal.returns
 returns c =
-    let bs = c.args.self.now in
+    let curve = c.args.self.now in
+    let bs = curve.breakpoints.items in
     let from = c.cell-start.result.from in
     let to = c.cell-end.result.to in
-    let found : by_code bs c.args.code ≡ Some (ends from to) = spanned_found c.args.code (cells bs) _ _ _ _ c.in_ok-first.ensures c.last_admitting-last.ensures c.cell-start.ensures.cell c.cell-end.ensures.cell in
-    let order = found_in_order bs (is_ruled bs c.cell-start.ensures.ruled) _ _ _ found in
-    c.ok.ensures.value ∙ ap result_ok (c.new.ensures ∙ made_in_order from to order) ∙ sym found
+    let found : by_code bs c.args.code ≡ Some (ends from to) =
+    spanned_found c.args.code (cells bs) (tail bs) _ _ c.in_ok-first.ensures c.last_admitting-last.ensures
+    ∙ ap (λ (e : Cell). Some (ends e.from (get_or (cells bs) c.last_admitting-last.result (tail bs)).to)) (sym c.cell-start.ensures)
+    ∙ ap (λ (e : Cell). Some (ends from e.to)) (sym c.cell-end.ensures) in
+    let order = found_in_order bs (is_ruled bs curve.ruled) _ _ _ found in
+    let made : c.match-end.result ≡ ends from to =
+    elim c.match-end.branch [
+      | in-Closed w ↦ w.result-is ∙ w.between.ensures ∙ between_in_order from w.in-Closed.top (subst (AtMost from) w.in-Closed.is order) ∙ ap (ends from) (sym w.in-Closed.is)
+      | in-Open w ↦ search rules
+    ] in
+    ap Some made ∙ sym found

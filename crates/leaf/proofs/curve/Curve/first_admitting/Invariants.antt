@@ -5,7 +5,7 @@ use Rattle.leaf.specs.Searches.{admitting}
 use Rattle.leaf.proofs.curve.Curve.first_admitting.Given as goal
 
 abbrev pub invariant-loop-at : goal.invariant-loop-at
-invariant-loop-at l = (l.count ≡ length (cells l.self)) × (admitting l.code (cells l.self) ≡ admitting l.code (drop l.at (cells l.self)))
+invariant-loop-at l = (l.count ≡ length (cells l.self.breakpoints.items)) × (admitting l.code (cells l.self.breakpoints.items) ≡ admitting l.code (drop l.at (cells l.self.breakpoints.items)))
 
 abbrev pub decreases-loop-at : goal.decreases-loop-at
 decreases-loop-at l = l.count - l.at

@@ -7,7 +7,7 @@ use Rattle.leaf.proofs.curve.Curve.last_time.Goals as goal
 
 pub returns : goal.returns
 returns c =
-    let bs = c.args.self.now in
+    let bs = c.args.self.now.breakpoints.items in
     let time = λ (b : Breakpoint). b.time in
     let found : c.map_or.result ≡ option_map_or time (slice_get bs (length bs - 1)) 0 = search rules in
     found ∙ last_place time 0 bs

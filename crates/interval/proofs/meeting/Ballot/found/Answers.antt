@@ -4,8 +4,8 @@ use Rattle.interval.specs.Ends.{Found}
 use Rattle.interval.specs.Meetings.{Meets}
 use Rattle.interval.specs.Spans.{ends}
 use Rattle.interval.proofs.Meetings.{meets_open, meets_closed, meeting_laws}
-use Rattle.interval.proofs.meeting.Poll.found.Goals.{then-open_tops-self, else-open_tops-self}
-use Rattle.interval.proofs.meeting.Poll.found.Goals as goal
+use Rattle.interval.proofs.meeting.Ballot.found.Goals.{then-open_tops-self, else-open_tops-self}
+use Rattle.interval.proofs.meeting.Ballot.found.Goals as goal
 
 pub returns-in_err-lower : goal.returns-in_err-lower
 returns-in_err-lower c =

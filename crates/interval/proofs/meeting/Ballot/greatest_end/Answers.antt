@@ -7,7 +7,7 @@ use Rattle.interval.specs.Meetings.{quorate}
 use Rattle.interval.specs.Spans.{Span}
 use Rattle.interval.specs.Tops.{closed_time}
 use Rattle.interval.proofs.Ends.{GreatestOf, greatest_end, greatest_of}
-use Rattle.interval.proofs.meeting.Poll.greatest_end.Goals as goal
+use Rattle.interval.proofs.meeting.Ballot.greatest_end.Goals as goal
 
 pub returns : goal.returns
 returns c =

@@ -7,7 +7,7 @@ use Rattle.std.specs.List.{filter, reduce}
 use Rattle.interval.specs.Meetings.{quorate}
 use Rattle.interval.specs.Spans.{Span}
 use Rattle.interval.proofs.Ends.{LeastOf, least_end, least_of}
-use Rattle.interval.proofs.meeting.Poll.least_end.Goals as goal
+use Rattle.interval.proofs.meeting.Ballot.least_end.Goals as goal
 
 pub returns : goal.returns
 returns c =
@@ -21,4 +21,4 @@ returns c =
     (YieldsList-from_map _ (λ (s : Span). s.lower) (YieldsList-at c.map.ensures.source (YieldsList-from_slice ss (cc))) c.map.ensures.closure (λ x r f called. search (rules, tests))))
     c.filter.ensures.closure
     (λ x b f called. search (rules, tests))) in
-    least_end ss q c.args.self.now.some c.min.result (subst (LeastOf ss q) (sym found) (least_of ss q))
+    least_end ss q c.args.self.now.positive c.min.result (subst (LeastOf ss q) (sym found) (least_of ss q))
