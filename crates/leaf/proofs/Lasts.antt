@@ -4,8 +4,7 @@ use Rattle.std.specs.List.{last_or}
 use Rattle.std.specs.Iterator.{Drains}
 use Rattle.std.specs.Option.{option_map_or}
 use Rattle.std.proofs.lemmas.Iterator.{YieldsList, items_from_drains}
-use Rattle.std.proofs.lemmas.List.{map-id}
-use Rattle.std.proofs.lemmas.List.{get_or_default}
+use Rattle.std.proofs.lemmas.List.{get_or_default, map-id}
 use Rattle.std.proofs.lemmas.Option.{slice_get-get_or}
 use Rattle.leaf.specs.Lasts.{last_of}
 use Rattle.leaf.specs.LastsLemmas.{last_read}

@@ -43,7 +43,7 @@ module _ (v : ℕ) (cs : List Cell) (d : Cell) where
       ap spanned (from ∙ rest)
       ∙ ap (λ (c : Cell). Some (ends (at i).from c.to)) (ap (last_of (at i)) (sym rest) ∙ end d)
 
--- whatever the default, where it is one that stands for no cell in question
+-- what holds of the last cell with one default holds with any, since both numbers are those of cells
 pub at_any : (cs : List Cell) (i j : ℕ) (c d : Cell) (v : ℕ) → i < length cs → j < length cs → last_of (get_or cs i d) (admitting v (drop i cs)) ≡ get_or cs j d → last_of (get_or cs i c) (admitting v (drop i cs)) ≡ get_or cs j c
 at_any cs i j c d v first last same =
     ap (λ e. last_of e (admitting v (drop i cs))) (get_or_default cs i c d first) ∙ same ∙ get_or_default cs j d c last
