@@ -37,7 +37,6 @@ fn report(rt: &HostRuntime, clocks: &[Interval; 4]) -> io::Result<()> {
         let met = Answer::from(meeting(clocks, quorum));
         println!(rt; "meeting at {quorum}: {met}")?;
     }
-    let clocks = clocks.as_slice();
     for (one, other) in [(1, 2), (0, 3)] {
         let shared = Answer::from(clocks[one].shared(&clocks[other]));
         println!(rt; "clocks {one} and {other} share: {shared}")?;

@@ -1,8 +1,7 @@
 -- The digits of a path's number are the places that were put in front, one after the other.
-use Rattle.std.proofs.Common.{◌≡◌, ℕ, zero, suc, ◌+◌, ◌*◌, ◌^◌, ◌<◌, ◌≤◌, min, ltb, nat_le, cond, List, [], ◌∷◌, length, sym, refl, ap, ◌∙◌, ⊎_elim, le_trans, mul-le-mul_right, pow-suc, add-one, arith, lit<}
+use Rattle.std.proofs.Common.{◌≡◌, ℕ, zero, suc, ◌+◌, ◌*◌, ◌/◌, ◌^◌, ◌<◌, ◌≤◌, min, ltb, List, [], ◌∷◌, length, sym, refl, ap, ◌∙◌, ⊎_elim, le_trans, mul-le-mul_right, pow-suc, arith, lit<}
 use native.Mathlib.Nat.{pow-le-pow_right}
-use Rattle.std.specs.List.{AllByRecursion, count_by, range_with_len}
-use Rattle.std.proofs.lemmas.List.Sums.{sum_by-cons}
+use Rattle.std.specs.List.{AllByRecursion}
 use Rattle.std.proofs.lemmas.Bool.{cases_lt, le-leb, lt-leb, lt-ltb, le-ltb, cond-true, cond-false}
 use Rattle.gauge.specs.declared.path.Place.{Place}
 use Rattle.gauge.specs.declared.path.Place.TheVariants.{First, Second, Third}
@@ -11,20 +10,6 @@ use Rattle.gauge.specs.Paths.{most_digits, place_digit, digits_below, digits, in
 -- a later power of four is not less
 powers_rise : (i j : ℕ) → i ≤ j → 4 ^ i ≤ 4 ^ j
 powers_rise i j le = pow-le-pow_right (lit< tt) le
-
--- one power more
-digits_more : (k n : ℕ) → digits_below (k + 1) n ≡ digits_below k n + cond (nat_le (4 ^ k) n) 1 0
-digits_more k n = rw (add-one k) refl
-
--- the powers counted from the i-th on, up to the m-th
-digits_from : (i k m n : ℕ) → i + k ≡ m → count_by (λ j. nat_le (4 ^ j) n) (range_with_len i k) + digits_below i n ≡ digits_below m n
-digits_from i zero m n e = let same : i ≡ m = omega arith in omega (arith, ap (λ j. digits_below j n) same)
-digits_from i (suc k) m n e =
-    omega (arith, sum_by-cons (λ j. cond (nat_le (4 ^ j) n) 1 0) i (range_with_len (i + 1) k), digits_more i n, digits_from (i + 1) k m n (omega arith))
-
--- the digits of a number, counted from the lowest power on
-pub digits_counted : (k n : ℕ) → count_by (λ j. nat_le (4 ^ j) n) (range_with_len 0 k) ≡ digits_below k n
-digits_counted k n = let all : count_by (λ j. nat_le (4 ^ j) n) (range_with_len 0 k) + 0 ≡ digits_below k n = digits_from 0 k k n (omega arith) in omega arith
 
 -- the powers below fifteen fit 32 bits
 pub power_fits : (k : ℕ) → k < most_digits → 4 ^ k ≤ 268435456
@@ -38,6 +23,24 @@ counted m n reached short (suc k) =
     (λ lt. rw (le-leb (4 ^ k) n (reached k lt)) (omega (arith, counted m n reached short k)))
     (λ le. rw (lt-leb (4 ^ k) n (le_trans short (powers_rise m k le))) (omega (arith, counted m n reached short k)))
     (cases_lt k m)
+
+-- a power of four is one of two
+four : (j : ℕ) → 4 ^ j ≡ 2 ^ (2 * j)
+four zero = refl
+four (suc j) =
+    let double : 2 * suc j ≡ suc (suc (2 * j)) = omega arith in
+    let two : 2 ^ (2 * suc j) ≡ 2 ^ (2 * j) * 2 * 2 =
+    ap (λ k. 2 ^ k) double ∙ pow-suc 2 (suc (2 * j)) ∙ ap (λ n. n * 2) (pow-suc 2 (2 * j)) in
+    omega (arith, pow-suc 4 j, two, four j)
+
+-- a number whose highest bit is the r-th has a digit for each two bits, up to fifteen
+pub digits_of_bits : (r n : ℕ) → 2 ^ r ≤ n → n < 2 * 2 ^ r → min (r / 2 + 1) most_digits ≡ digits n
+digits_of_bits r n reached short =
+    let m = r / 2 + 1 in
+    let fewer : (j : ℕ) → j < m → 4 ^ j ≤ n =
+    λ j lt. let below : 2 ^ (2 * j) ≤ 2 ^ r = pow-le-pow_right (lit< tt) (omega arith) in omega (arith, four j, below) in
+    let above : 2 ^ suc r ≤ 2 ^ (2 * m) = pow-le-pow_right (lit< tt) (omega arith) in
+    omega (arith, counted m n fewer (omega (arith, four m, above, pow-suc 2 r)) most_digits)
 
 -- a number that reaches the first k powers has so many digits
 reached_all : (n k : ℕ) → ((j : ℕ) → j < k → 4 ^ j ≤ n) → digits_below k n ≡ k

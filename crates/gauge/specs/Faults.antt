@@ -12,8 +12,8 @@ gauge_number (NoMeeting lost path) = 5
 
 -- channel, code (0 where there is none) and path; or the path; or lost votes and path
 abbrev pub gauge_told : GaugeFault → List ℕ
-gauge_told (Missing channel path) = channel ∷ 0 ∷ path ∷ []
-gauge_told (OffScale channel code path) = channel ∷ code ∷ path ∷ []
-gauge_told (Impossible channel code path) = channel ∷ code ∷ path ∷ []
-gauge_told (NothingShared path) = path ∷ []
-gauge_told (NoMeeting lost path) = lost ∷ path ∷ []
+gauge_told (Missing channel path) = channel ∷ 0 ∷ path.number ∷ []
+gauge_told (OffScale channel code path) = channel ∷ code ∷ path.number ∷ []
+gauge_told (Impossible channel code path) = channel ∷ code ∷ path.number ∷ []
+gauge_told (NothingShared path) = path.number ∷ []
+gauge_told (NoMeeting lost path) = lost ∷ path.number ∷ []

@@ -1,6 +1,7 @@
 -- The path of a fault: the places of the parts on the way down, the outermost first, as the base-4 digits of one number.
 use Rattle.std.specs.Prelude.{◌≡◌, ℕ, zero, suc, ◌+◌, ◌*◌, ◌^◌, ◌<◌, ◌≤◌, cond, List, [], ◌∷◌, length, nat_le, nat_lt}
 use Rattle.std.specs.List.{AllByRecursion}
+use Rattle.gauge.specs.declared.path.Path.{Path}
 use Rattle.gauge.specs.declared.path.Place.{Place}
 use Rattle.gauge.specs.declared.path.Place.TheVariants.{First, Second, Third}
 
@@ -13,9 +14,12 @@ place_digit First = 1
 place_digit Second = 2
 place_digit Third = 3
 
--- the path where a fault arises: no digits
-abbrev pub start : ℕ
-start = 0
+abbrev pub path : ℕ → Path
+path n = record { number = n }
+
+-- no digits
+abbrev pub start : Path
+start = path 0
 
 -- how many of 1, 4, 16 and so on, the first k powers of four, the number n reaches
 abbrev pub digits_below : ℕ → ℕ → ℕ
@@ -26,9 +30,13 @@ digits_below (suc k) n = digits_below k n + cond (nat_le (4 ^ k) n) 1 0
 abbrev pub digits : ℕ → ℕ
 digits n = digits_below most_digits n
 
--- the path n under the place p: the digit p goes in front of those of n; after fifteen digits the number stays
+-- the digit p goes in front of those of n; after fifteen digits the number stays
 abbrev pub in_front : ℕ → ℕ → ℕ
 in_front p n = cond (nat_lt (digits n) most_digits) (p * 4 ^ digits n + n) n
+
+-- the path of a fault that the part at place p hands up
+abbrev pub under : ℕ → Path → Path
+under p at = path (in_front p at.number)
 
 -- the number whose base-4 digits are these places
 abbrev pub places_number : List ℕ → ℕ

@@ -1,6 +1,7 @@
 // A gauge turns a row of readings into an interval that holds the length of the outage.
 ghost use Rattle.gauge.specs.Meaning.{Meaning};
 ghost use Rattle.gauge.specs.Shows.{Shows};
+ghost use Rattle.interval.specs.Spans.{answered};
 ghost use Rattle.std.specs.Prelude.{◌≡◌};
 
 use crate::fault::GaugeFault;
@@ -12,7 +13,7 @@ pub trait Gauge {
 
     // The length of the outage that left this row, one reading a channel, channel 0 first.
     fn measure(&self, row: &[u16]) -> Result<Interval, GaugeFault>
-        ensures { result ≡ (meaning self.now).answer row.now };
+        ensures { answered result ≡ (meaning self.now).answer row.now };
 
     // Outages below the reach get a closed top.
     fn reach(&self) -> u64

@@ -1,9 +1,7 @@
 // Where in a pile of gauges a fault arose. A path is one number: its base-4 digits are the places of the parts on the
 // way down, the outermost first.
 ghost use Rattle.std.specs.Prelude.{◌≡◌};
-ghost use Rattle.gauge.specs.Paths.{PathLaws, digits, in_front, place_digit, start};
-
-use std::marker::Model;
+ghost use Rattle.gauge.specs.Paths.{PathLaws, digits, in_front, place_digit, start, under};
 
 // The most digits that a path has; a path of so many stays as it is.
 const MOST_DIGITS: u32 = 15;
@@ -13,25 +11,15 @@ const BASE: u32 = 4;
 // The place of a part in the layer that holds it.
 #[derive(Clone, Copy)]
 pub enum Place {
-    First = 1,
+    First,
     Second,
     Third,
 }
 
-// A contract sees a path as its number.
+// No model: a fault holds a path, and whoever holds faults in an option, a pair or a struct of their own may still copy these.
 #[derive(Clone, Copy, PartialEq, Eq, Debug)]
 pub struct Path {
     number: u32,
-}
-
-impl Model for Path {
-    ghost use Rattle.std.specs.Prelude.{ℕ};
-
-    ghost Value = { ℕ };
-
-    ghost view = { λ path. path.number };
-
-    ghost inverse = { λ number. record { number = number } };
 }
 
 impl Place {
@@ -39,7 +27,7 @@ impl Place {
     pub fn digit(&self) -> u32
         ensures { result ≡ place_digit self.now }
     {
-        *self as u32
+        *self as u32 + 1
     }
 }
 
@@ -53,7 +41,7 @@ impl Path {
 
     // The path of a fault that the part at `place` hands up to its layer.
     pub fn under(self, place: Place) -> Path
-        ensures value { result ≡ in_front (place_digit place) self }
+        ensures value { result ≡ under (place_digit place) self }
         ensures laws { PathLaws }
     {
         Path {
@@ -63,7 +51,7 @@ impl Path {
 
     // The path as it is told; by name, as the digit is.
     pub fn number(&self) -> u32
-        ensures { result ≡ self.now }
+        ensures { result ≡ self.now.number }
     {
         self.number
     }
@@ -82,11 +70,12 @@ fn in_front(place: Place, number: u32) -> u32
     place.digit() * BASE.pow(digits) + number
 }
 
-// How many base-4 digits the number has, counted up to fifteen.
+// How many base-4 digits the number has, counted up to fifteen; each takes two bits.
 fn digits(number: u32) -> u32
     ensures { result ≡ digits number }
 {
-    (0..MOST_DIGITS)
-        .filter(|&place| BASE.pow(place) <= number)
-        .count() as u32
+    if number == 0 {
+        return 0;
+    }
+    (number.ilog2() / 2 + 1).min(MOST_DIGITS)
 }

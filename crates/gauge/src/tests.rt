@@ -38,6 +38,31 @@ fn a_path_stays_at_fifteen_digits(rt: HostRuntime) {
 }
 
 #[test]
+fn places_are_numbered_from_0(rt: HostRuntime) {
+    assert_eq!(rt; Place::First as u32, 0);
+    assert_eq!(rt; Place::Second as u32, 1);
+    assert_eq!(rt; Place::Third as u32, 2);
+    assert_eq!(rt; Place::First.digit(), 1);
+    assert_eq!(rt; Place::Second.digit(), 2);
+    assert_eq!(rt; Place::Third.digit(), 3);
+}
+
+fn number_of(fault: GaugeFault) -> u32 {
+    fault.number()
+}
+
+// A fault may be used again after it was passed by value.
+#[test]
+fn a_fault_is_copied(rt: HostRuntime) {
+    let fault = GaugeFault::NothingShared {
+        path: Path::start(),
+    };
+    assert_eq!(rt; number_of(fault), 4);
+    assert_eq!(rt; number_of(fault), 4);
+    assert_eq!(rt; (fault, fault).1, fault);
+}
+
+#[test]
 fn each_fault_has_its_number_and_tells(rt: HostRuntime) {
     let path = Path::start().under(Place::Second);
     let missing = GaugeFault::Missing { channel: 7, path };

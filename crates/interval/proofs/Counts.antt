@@ -1,5 +1,5 @@
--- Counts of what passes a test: one element more, and a weaker test.
-use Rattle.std.proofs.Common.{◌≡◌, ℕ, ◌+◌, ◌≤◌, Bool, true, false, cond, List, [], ◌∷◌, count_by, refl, ap, arith}
+-- Counts of what passes a test: one element more, a weaker test, and images of elements.
+use Rattle.std.proofs.Common.{◌≡◌, ℕ, ◌+◌, ◌≤◌, Bool, true, false, cond, List, [], ◌∷◌, count_by, map, refl, sym, ap, ◌∙◌, arith}
 use Rattle.std.specs.List.{AllByRecursion}
 use Rattle.std.proofs.lemmas.List.Sums.{sum_by-cons}
 
@@ -21,3 +21,11 @@ counts_no_fewer p r (x ∷ xs) (here, rest) =
     one : (a b : Bool) → (a ≡ true → b ≡ true) → cond a 1 0 ≤ cond b 1 0
     one true b h = rw (h refl) (omega arith)
     one false b h = omega arith
+
+-- the images that pass are as many as the elements whose images do
+pub count_mapped : {X Y : Type 0} (g : X → Y) (p : Y → Bool) (xs : List X) → count_by p (map g xs) ≡ count_by (λ x. p (g x)) xs
+count_mapped g p [] = refl
+count_mapped g p (x ∷ xs) =
+    count_cons p (g x) (map g xs)
+    ∙ ap (λ n. cond (p (g x)) 1 0 + n) (count_mapped g p xs)
+    ∙ sym (count_cons (λ y. p (g y)) x xs)

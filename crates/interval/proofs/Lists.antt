@@ -1,4 +1,4 @@
--- The least and the greatest of a list of numbers, and what holds of each element that a filter or a map gives.
+-- The least and the greatest of a list of numbers, a map after a map, and what holds of each element that a filter or a map gives.
 use Rattle.std.proofs.Common.{◌≡◌, ℕ, ◌≤◌, min, max, Bool, true, List, [], ◌∷◌, map, Some, None, Option, unwrap_or, sym, refl, ap, ◌∙◌, subst, le_refl, arith}
 use Rattle.std.specs.List.{AllByRecursion, cons_option, filter, filter_map, fold, reduce}
 use Rattle.std.proofs.lemmas.Bool.{cond_both, false≢true}
@@ -27,10 +27,23 @@ pub all_le-fold_max : (b : ℕ) (ys : List ℕ) → AllByRecursion (λ y. y ≤ 
 all_le-fold_max b [] = tt
 all_le-fold_max b (y ∷ ys) = (omega (arith, le-fold_max (max b y) ys), all_le-fold_max (max b y) ys)
 
--- with 0 beside it, the greatest of a list, if it has any, is the greatest of 0 and the list
-pub max_given : (ys : List ℕ) → unwrap_or (reduce max ys) 0 ≡ fold max 0 ys
-max_given [] = refl
-max_given (y ∷ ys) = let same : y ≡ max 0 y = omega arith in ap (λ b. fold max b ys) same
+-- the least of a list, found by keeping the lesser of what there is so far, if anything, and the next
+pub least_given : (ys : List ℕ) → fold (λ least y. Some (min (unwrap_or least y) y)) None ys ≡ reduce min ys
+least_given [] = refl
+least_given (y ∷ ys) = let same : min y y ≡ y = omega arith in from (min y y) ys ∙ ap (λ b. Some (fold min b ys)) same
+  where
+    from : (b : ℕ) (ys : List ℕ) → fold (λ least y. Some (min (unwrap_or least y) y)) (Some b) ys ≡ Some (fold min b ys)
+    from b [] = refl
+    from b (y ∷ ys) = from (min b y) ys
+
+-- a map, or a filter that maps, of a map is one of the list itself
+pub map_mapped : {X Y Z : Type 0} (g : X → Y) (f : Y → Z) (xs : List X) → map f (map g xs) ≡ map (λ x. f (g x)) xs
+map_mapped g f [] = refl
+map_mapped g f (x ∷ xs) = ap (λ ys. f (g x) ∷ ys) (map_mapped g f xs)
+
+pub filter_map_mapped : {X Y Z : Type 0} (g : X → Y) (h : Y → Option Z) (xs : List X) → filter_map h (map g xs) ≡ filter_map (λ x. h (g x)) xs
+filter_map_mapped g h [] = refl
+filter_map_mapped g h (x ∷ xs) = ap (cons_option (h (g x))) (filter_map_mapped g h xs)
 
 -- what holds of each element that is kept holds of each that passes
 pub all_passing : {X : Type 0} (p : X → Bool) (P : X → Type 0) (xs : List X) → AllByRecursion P (filter p xs) → AllByRecursion (λ x. p x ≡ true → P x) xs

@@ -4,11 +4,12 @@ use Rattle.std.specs.List.{AllByRecursion}
 use Rattle.std.proofs.lemmas.Bool.{le-leb, lt-leb, cases_lt, true≢false, false≢true}
 use Rattle.interval.specs.declared.top.Top.{Top}
 use Rattle.interval.specs.declared.top.Top.TheVariants.{Closed, Open}
+use Rattle.interval.specs.declared.interval.Interval.{Interval}
 use Rattle.interval.specs.declared.fault.MeetingFault.{MeetingFault}
 use Rattle.interval.specs.declared.fault.MeetingFault.TheVariants.{Empty, OutOfRule}
 use Rattle.interval.specs.Tops.{AtMost, is_open}
-use Rattle.interval.specs.Spans.{Span, ends, Holds, holds}
-use Rattle.interval.specs.Meetings.{holders, open_tops, Quorate, Meets, MeetingLaws, MeetingAnswer, in_rule}
+use Rattle.interval.specs.Spans.{Span, ends, span, Holds, holds, answered}
+use Rattle.interval.specs.Meetings.{spans, holders, open_tops, Quorate, Meets, MeetingLaws, MeetingAnswer, in_rule}
 use Rattle.interval.specs.Ends.{LeastPoint, GreatestPoint}
 use Rattle.interval.proofs.Counts.{counts_no_fewer}
 use Rattle.interval.proofs.Spans.{holds_decides, at_most_before}
@@ -106,8 +107,8 @@ meeting_laws = record {
 }
 
 -- where a span is the meeting and number and quorum are in rule, that span is the answer
-pub answers_meeting : (ss : List Span) (q : ℕ) (m : Span) (r : Result Span MeetingFault) → in_rule (length ss) q ≡ true → Meets ss q m → MeetingAnswer ss q r → r ≡ Ok m
-answers_meeting ss q m (Ok n) rule meets (_, found) = ap Ok (meeting_laws.one ss q n m found meets)
-answers_meeting ss q m (Err Empty) rule meets (_, none) =
-    absurd (omega (arith, none m.lower, lower_end ss q m meets))
-answers_meeting ss q m (Err (OutOfRule quorum)) rule meets (broken, _) = absurd (false≢true (sym broken ∙ rule))
+pub answers_meeting : (is : List Interval) (q : ℕ) (m : Span) (r : Result Interval MeetingFault) → in_rule (length is) q ≡ true → Meets (spans is) q m → MeetingAnswer is q r → answered r ≡ Ok m
+answers_meeting is q m (Ok i) rule meets (_, found) = ap Ok (meeting_laws.one (spans is) q (span i) m found meets)
+answers_meeting is q m (Err Empty) rule meets (_, none) =
+    absurd (omega (arith, none m.lower, lower_end (spans is) q m meets))
+answers_meeting is q m (Err (OutOfRule quorum)) rule meets (broken, _) = absurd (false≢true (sym broken ∙ rule))

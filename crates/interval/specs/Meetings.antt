@@ -1,10 +1,14 @@
 -- The meeting of spans at a quorum q: the smallest span that holds every point lying in at least q of them.
-use Rattle.std.specs.Prelude.{◌≡◌, ℕ, ◌<◌, ◌≤◌, Bool, true, false, ◌&&◌, List, length, Ok, Err, count_by, Result, nat_le}
+use Rattle.std.specs.Prelude.{◌≡◌, ℕ, ◌<◌, ◌≤◌, Bool, true, false, ◌&&◌, List, map, length, Ok, Err, count_by, Result, nat_le}
 use Rattle.interval.specs.declared.top.Top.TheVariants.{Closed}
+use Rattle.interval.specs.declared.interval.Interval.{Interval}
 use Rattle.interval.specs.declared.fault.MeetingFault.{MeetingFault}
 use Rattle.interval.specs.declared.fault.MeetingFault.TheVariants.{Empty, OutOfRule}
 use Rattle.interval.specs.Tops.{is_open}
-use Rattle.interval.specs.Spans.{Span, Holds, holds, InOrder}
+use Rattle.interval.specs.Spans.{Span, span, Holds, holds, InOrder}
+
+abbrev pub spans : List Interval → List Span
+spans is = map span is
 
 -- how many of the listed spans hold x
 abbrev pub holders : List Span → ℕ → ℕ
@@ -51,7 +55,7 @@ abbrev pub in_rule : ℕ → ℕ → Bool
 in_rule n q = nat_le 1 q && nat_le q n && nat_le n most_spans
 
 -- what a meeting answers: it meets, or no time lies in q of the intervals, or their number or q is out of rule
-abbrev pub MeetingAnswer : List Span → ℕ → Result Span MeetingFault → Type 0
-MeetingAnswer ss q (Ok m) = (in_rule (length ss) q ≡ true) × Meets ss q m
-MeetingAnswer ss q (Err Empty) = (in_rule (length ss) q ≡ true) × NoneQuorate ss q
-MeetingAnswer ss q (Err (OutOfRule quorum)) = (in_rule (length ss) q ≡ false) × (quorum ≡ q)
+abbrev pub MeetingAnswer : List Interval → ℕ → Result Interval MeetingFault → Type 0
+MeetingAnswer is q (Ok m) = (in_rule (length is) q ≡ true) × Meets (spans is) q (span m)
+MeetingAnswer is q (Err Empty) = (in_rule (length is) q ≡ true) × NoneQuorate (spans is) q
+MeetingAnswer is q (Err (OutOfRule quorum)) = (in_rule (length is) q ≡ false) × (quorum ≡ q)

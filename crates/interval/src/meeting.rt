@@ -1,7 +1,8 @@
 // The meeting of intervals at a quorum, found by trying the ends of the intervals themselves.
-ghost use Rattle.std.specs.Prelude.{◌≡◌, ◌<◌};
+ghost use Rattle.std.specs.Prelude.{◌≡◌, ◌<◌, min};
+ghost use Rattle.std.specs.Option.{unwrap_or};
 ghost use Rattle.interval.specs.Ends.{LeastPoint, GreatestPoint, Found};
-ghost use Rattle.interval.specs.Meetings.{holders, quorate, open_tops, in_rule, MeetingAnswer, MeetingLaws};
+ghost use Rattle.interval.specs.Meetings.{spans, holders, quorate, open_tops, in_rule, MeetingAnswer, MeetingLaws};
 
 use crate::fault::MeetingFault;
 use crate::interval::Interval;
@@ -45,7 +46,7 @@ struct Ballot<'a> {
 impl<'a> Ballot<'a> {
     // The meeting, or none where no time lies in enough of the intervals.
     fn found(&self) -> Option<Interval>
-        ensures finds { Found self.now.intervals.now self.now.quorum result }
+        ensures finds { Found (spans self.now.intervals.now) self.now.quorum result }
         ensures laws { MeetingLaws }
     {
         let lower = self.least_end()?;
@@ -58,8 +59,9 @@ impl<'a> Ballot<'a> {
     }
 
     // How many of the intervals hold `x`, counted by a `for`: the project fixes this form (docs/DECISIONS.md).
+    #[tactic(auto, using(crate::proofs::Counts::count_mapped))]
     fn holders(&self, x: u64) -> usize
-        ensures { result ≡ holders self.now.intervals.now x }
+        ensures { result ≡ holders (spans self.now.intervals.now) x }
     {
         let mut count = 0;
         for interval in self.intervals {
@@ -72,14 +74,15 @@ impl<'a> Ballot<'a> {
 
     // Whether enough of the intervals hold `x`.
     fn quorate(&self, x: u64) -> bool
-        ensures { result ≡ quorate self.now.intervals.now self.now.quorum x }
+        ensures { result ≡ quorate (spans self.now.intervals.now) self.now.quorum x }
     {
         self.holders(x) >= self.quorum
     }
 
     // How many of the intervals have an open top.
+    #[tactic(auto, using(crate::proofs::Counts::count_mapped))]
     fn open_tops(&self) -> usize
-        ensures { result ≡ open_tops self.now.intervals.now }
+        ensures { result ≡ open_tops (spans self.now.intervals.now) }
     {
         self.intervals
             .iter()
@@ -89,18 +92,18 @@ impl<'a> Ballot<'a> {
 
     // The least lower end that enough of the intervals hold.
     fn least_end(&self) -> Option<u64>
-        ensures { LeastPoint self.now.intervals.now self.now.quorum result }
+        ensures { LeastPoint (spans self.now.intervals.now) self.now.quorum result }
     {
         self.intervals
             .iter()
             .map(|interval| interval.lower())
             .filter(|&end| self.quorate(end))
-            .min()
+            .fold(None, |least, end| Some(lesser(least, end)))
     }
 
     // The greatest of `floor` and the closed tops that enough of the intervals hold.
     fn greatest_end(&self, floor: u64) -> u64
-        ensures { GreatestPoint self.now.intervals.now self.now.quorum floor result }
+        ensures { GreatestPoint (spans self.now.intervals.now) self.now.quorum floor result }
     {
         self.intervals
             .iter()
@@ -108,4 +111,12 @@ impl<'a> Ballot<'a> {
             .filter(|&end| self.quorate(end))
             .fold(floor, |greatest, end| greatest.max(end))
     }
+}
+
+// The lesser of the least end so far, if there is one, and another end. Apart from the chain that calls it, so that it has a
+// clause of its own.
+fn lesser(least: Option<u64>, end: u64) -> u64
+    ensures { result ≡ min (unwrap_or least end) end }
+{
+    least.unwrap_or(end).min(end)
 }

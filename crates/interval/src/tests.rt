@@ -41,13 +41,44 @@ fn between_takes_its_ends_in_either_order(rt: HostRuntime) -> Result<(), Fail> {
 
 #[test]
 fn an_open_top_meets_a_closed_one(rt: HostRuntime) -> Result<(), Fail> {
-    let one = open(3)?;
-    let other = closed(1, 7)?;
-    let both = [one, other];
+    let both = [open(3)?, closed(1, 7)?];
     assert_eq!(rt; meeting(&both, 1)?, open(1)?);
     assert_eq!(rt; meeting(&both, 2)?, closed(3, 7)?);
-    assert_eq!(rt; one.shared(&other), Some(closed(3, 7)?));
-    assert_eq!(rt; one.shared(&open(2)?), Some(open(3)?));
+    assert_eq!(rt; both[0].shared(&both[1]), Some(closed(3, 7)?));
+    assert_eq!(rt; both[0].shared(&open(2)?), Some(open(3)?));
+    Ok(())
+}
+
+#[derive(Clone, Copy)]
+struct Weighed {
+    interval: Interval,
+    weight: u64,
+}
+
+fn weighed_lower(weighed: Weighed) -> u64 {
+    weighed.interval.lower().saturating_mul(weighed.weight)
+}
+
+fn lower_or(interval: Option<Interval>, otherwise: u64) -> u64 {
+    match interval {
+        Some(interval) => interval.lower(),
+        None => otherwise,
+    }
+}
+
+// What holds an interval may be used again after it was passed by value, as the interval itself.
+#[test]
+fn what_holds_an_interval_is_copied(rt: HostRuntime) -> Result<(), Fail> {
+    let interval = closed(3, 7)?;
+    let weighed = Weighed {
+        interval,
+        weight: 2,
+    };
+    assert_eq!(rt; weighed_lower(weighed), 6);
+    assert_eq!(rt; weighed_lower(weighed), 6);
+    let some = Some(interval);
+    assert_eq!(rt; lower_or(some, 9), 3);
+    assert_eq!(rt; lower_or(some, 9), 3);
     Ok(())
 }
 
@@ -91,14 +122,13 @@ fn number_and_quorum_have_rules(rt: HostRuntime) -> Result<(), Fail> {
 
 #[test]
 fn intervals_apart_do_not_meet(rt: HostRuntime) -> Result<(), Fail> {
-    let one = closed(0, 1)?;
-    let other = closed(3, 4)?;
+    let apart = [closed(0, 1)?, closed(3, 4)?];
     let refused = MeetingFault::Empty;
-    assert_eq!(rt; meeting(&[one, other], 2), Err(refused));
+    assert_eq!(rt; meeting(&apart, 2), Err(refused));
     assert_eq!(rt; refused.number(), 5);
     assert_eq!(rt; refused.told().as_slice(), [0, 0].as_slice());
-    assert_eq!(rt; one.shared(&other), None);
-    assert_eq!(rt; closed(0, 3)?.shared(&other), Some(closed(3, 3)?));
+    assert_eq!(rt; apart[0].shared(&apart[1]), None);
+    assert_eq!(rt; closed(0, 3)?.shared(&apart[1]), Some(closed(3, 3)?));
     Ok(())
 }
 

@@ -1,6 +1,6 @@
 // Worked examples: what the definitions give for them, and that the functions answer just that.
 ghost use Rattle.std.specs.Prelude.{◌≡◌, Ok};
-ghost use Rattle.interval.specs.Spans.{ends};
+ghost use Rattle.interval.specs.Spans.{answered, ends};
 ghost use Rattle.interval.specs.Examples.{WorkedAllowance, WorkedMeeting};
 ghost use Rattle.interval.specs.declared.top.Top.TheVariants.{Closed};
 
@@ -13,7 +13,7 @@ use crate::top::Top;
 // The meeting at quorum 2 of [0, 10], [10, 20] and [0, 20].
 pub fn worked_meeting() -> Result<Interval, MeetingFault>
     ensures defined { WorkedMeeting }
-    ensures answers { result ≡ Ok (ends 0 (Closed 20)) }
+    ensures answers { answered result ≡ Ok (ends 0 (Closed 20)) }
 {
     let intervals = [
         Interval::ordered(0, Top::Closed(10)),

@@ -1,7 +1,6 @@
 -- The cells of a tier by their places.
-use Rattle.std.proofs.Common.{◌≡◌, ℕ, zero, suc, ◌+◌, ◌<◌, ◌≤◌, max, List, [], ◌∷◌, length, get_or, drop, ◌-◌, ⊎_elim, sym, refl, ap, ◌∙◌, add-one, arith}
-use Rattle.std.specs.List.{slice_range}
-use Rattle.std.proofs.lemmas.List.{get_or-drop, get_or-take, get_or_append_left, get_or_past, get_or_push, length_push}
+use Rattle.std.proofs.Common.{◌≡◌, ℕ, zero, suc, ◌+◌, ◌<◌, ◌≤◌, max, List, [], ◌∷◌, length, get_or, ⊎_elim, sym, refl, ap, ◌∙◌, add-one, arith}
+use Rattle.std.proofs.lemmas.List.{get_or_append_left, get_or_past, get_or_push, length_push}
 use Rattle.std.proofs.lemmas.Bool.{cases_lt}
 use Rattle.leaf.specs.declared.breakpoint.Breakpoint.{Breakpoint}
 use Rattle.leaf.specs.declared.cell.Cell.{Cell}
@@ -38,16 +37,7 @@ cell_at (b ∷ bs) i e d lt =
 pub tail_at : (bs : List Breakpoint) (i : ℕ) (e : Cell) → length bs ≤ i + 1 → i < length (cells bs) → tail bs ≡ get_or (cells bs) i e
 tail_at bs i e last within = sym (get_or_push (closed_cells bs) (tail bs) e i (omega (arith, closed_length bs, cells_length bs)))
 
--- cell i lies between the first two of the breakpoints from i on
-pub cell_from : (bs : List Breakpoint) (i : ℕ) (d : Breakpoint) (e : Cell) → i + 1 < length bs → cell_between (get_or (slice_range bs i (length bs)) 0 d) (get_or (slice_range bs i (length bs)) 1 d) ≡ get_or (cells bs) i e
-cell_from bs i d e lt =
-    let part = slice_range bs i (length bs) in
-    let first : get_or part 0 d ≡ get_or bs i d =
-    get_or-take (length bs - i) (drop i bs) 0 d (omega arith) ∙ get_or-drop i bs 0 d ∙ ap (λ j. get_or bs j d) (omega arith) in
-    let second : get_or part 1 d ≡ get_or bs (i + 1) d = get_or-take (length bs - i) (drop i bs) 1 d (omega arith) ∙ get_or-drop i bs 1 d in
-    ap (λ b. cell_between b (get_or part 1 d)) first ∙ ap (cell_between (get_or bs i d)) second ∙ cell_at bs i e d lt
-
--- and with fewer than two from i on, the tail stands there
+-- and with fewer than two breakpoints from i on, the tail stands there
 pub tail_from : (bs : List Breakpoint) (i : ℕ) → length bs ≤ i + 1 → tail bs ≡ get_or (cells bs) i (tail bs)
 tail_from bs i last =
     ⊎_elim (λ within. tail_at bs i (tail bs) last within) (λ past. sym (get_or_past (cells bs) i (tail bs) past)) (cases_lt i (length (cells bs)))

@@ -1,10 +1,9 @@
--- The last element of a list, as the library finds it.
-use Rattle.std.proofs.Common.{◌≡◌, ◌-◌, ◌<◌, get_or, List, [], ◌∷◌, map, length, Some, None, Option, unwrap_or, slice_get, sym, refl, ap, ◌∙◌, arith}
-use Rattle.std.specs.List.{last_or}
-use Rattle.std.specs.Iterator.{Drains}
+-- The last element of a list, by its place, and of those that pass a test, by a fold.
+use Rattle.std.proofs.Common.{◌≡◌, ◌-◌, ◌<◌, Bool, cond, get_or, List, [], ◌∷◌, map, length, slice_get, refl, ap, ◌∙◌, ⊎_elim, arith}
+use Rattle.std.specs.List.{filter, fold}
 use Rattle.std.specs.Option.{option_map_or}
-use Rattle.std.proofs.lemmas.Iterator.{YieldsList, items_from_drains}
-use Rattle.std.proofs.lemmas.List.{get_or_default, map-id}
+use Rattle.std.proofs.lemmas.Bool.{cases_Bool}
+use Rattle.std.proofs.lemmas.List.{get_or_default}
 use Rattle.std.proofs.lemmas.Option.{slice_get-get_or}
 use Rattle.leaf.specs.Lasts.{last_of}
 use Rattle.leaf.specs.LastsLemmas.{last_read}
@@ -18,16 +17,8 @@ last_place f d (x ∷ xs) =
     ap (λ o. option_map_or f o d) (slice_get-get_or (x ∷ xs) k x within)
     ∙ last_read f d (x ∷ xs) k (get_or (x ∷ xs) k x) (omega arith) (get_or_default (x ∷ xs) k x (get_or (x ∷ xs) k x) within)
 
--- the last that an iterator gives, if it gives any
-pub last_given : {X : Type 0} (d : X) (xs : List X) → unwrap_or (last_or None xs) d ≡ last_of d xs
-last_given d [] = refl
-last_given {X = X} d (x ∷ xs) = given x xs
-  where
-    given : (x : X) (xs : List X) → unwrap_or (last_or (Some x) xs) d ≡ last_of x xs
-    given x [] = refl
-    given x (y ∷ xs) = given y xs
-
--- what `last` gives of a chain is the last of its list
-pub last_yielded : {S A : Type 0} {steps : S → Option A → S → Type 0} {s : S} {all : List A} (r : Option A) → ((xs : List A) × Drains steps s xs × (r ≡ last_or None xs)) → YieldsList steps (λ x. x) s all → r ≡ last_or None all
-last_yielded r (xs, (end, (last, yielded, none)), given) yields =
-    given ∙ ap (last_or None) (sym (map-id xs) ∙ items_from_drains xs (last, yielded, λ _. (end, none)) yields)
+-- a fold that takes each element that passes, in place of what there was, ends with the last of them
+pub last_taken : {X Y : Type 0} (p : X → Bool) (f : X → Y) (d : Y) (xs : List X) → fold (λ last x. cond (p x) (f x) last) d xs ≡ last_of d (map f (filter p xs))
+last_taken p f d [] = refl
+last_taken p f d (x ∷ xs) =
+    ⊎_elim (λ passes. rw passes (last_taken p f (f x) xs)) (λ fails. rw fails (last_taken p f d xs)) (cases_Bool (p x))

@@ -25,6 +25,7 @@ pub struct Counter {
 impl Counter {
     ghost use Rattle.gauge.specs.Meaning.{SameMeaning};
     ghost use Rattle.interval.specs.Faults.{out_of_rule};
+    ghost use Rattle.interval.specs.Spans.{span};
     ghost use Rattle.leaf.specs.Counters.{CounterLaws, counted, counter_meaning};
     ghost use Rattle.leaf.specs.contracts.counter.CounterGauge.TheImpl.{ghosts};
     ghost use Rattle.std.specs.Prelude.{false, MatchResult};
@@ -44,7 +45,7 @@ impl Counter {
 
     // The outages that leave the reading `count`.
     fn counted(&self, count: u16) -> Interval
-        ensures { result ≡ counted self.now.period count }
+        ensures { span result ≡ counted self.now.period count }
     {
         let period = self.period as u64;
         let lower = count as u64 * period;

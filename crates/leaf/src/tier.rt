@@ -21,6 +21,7 @@ pub struct Tier {
 
 impl Tier {
     ghost use Rattle.gauge.specs.Meaning.{SameMeaning};
+    ghost use Rattle.interval.specs.Spans.{answered};
     ghost use Rattle.leaf.specs.Breakpoints.{add_answer, added};
     ghost use Rattle.leaf.specs.TierData.{channel_of, points};
     ghost use Rattle.leaf.specs.TierLaws.{TierLaws};
@@ -50,7 +51,7 @@ impl Tier {
 
     // What the code of its channel is answered.
     fn code_answer(&self, code: u16) -> Result<Interval, GaugeFault>
-        ensures { result ≡ code_answer self.now.channel (points self.now) code }
+        ensures { answered result ≡ code_answer self.now.channel (points self.now) code }
     {
         let channel = self.channel;
         let path = Path::start();

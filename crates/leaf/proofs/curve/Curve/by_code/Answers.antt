@@ -1,5 +1,5 @@
--- `by_code`: the first and the last cell that admit the code make the span, and its ends are in order.
-use Rattle.std.proofs.Common.{◌≡◌, Some, get_or, rules, sym, ap, ◌∙◌, subst}
+-- `by_code`: the first and the last cell that admit the code make the span, and where its top is closed its ends are in order.
+use Rattle.std.proofs.Common.{◌≡◌, Some, get_or, sym, ap, ◌∙◌, subst}
 use Rattle.interval.specs.Spans.{ends}
 use Rattle.interval.specs.Tops.{AtMost}
 use Rattle.interval.proofs.Spans.{between_in_order}
@@ -9,11 +9,10 @@ use Rattle.leaf.specs.Tiers.{by_code}
 use Rattle.leaf.specs.BreakpointsLemmas.{is_ruled}
 use Rattle.leaf.specs.TiersLemmas.{found_in_order}
 use Rattle.leaf.proofs.Searches.{spanned_found}
-use Rattle.leaf.proofs.curve.Curve.by_code.Goals.{in-Closed, in-Open}
 use Rattle.leaf.proofs.curve.Curve.by_code.Goals as goal
 
-pub returns : goal.returns
-returns c =
+pub returns-in-Closed : goal.returns-in-Closed
+returns-in-Closed c =
     let curve = c.args.self.now in
     let bs = curve.breakpoints.items in
     let from = c.cell-start.result.from in
@@ -23,9 +22,6 @@ returns c =
     ∙ ap (λ (e : Cell). Some (ends e.from (get_or (cells bs) c.last_admitting-last.result (tail bs)).to)) (sym c.cell-start.ensures)
     ∙ ap (λ (e : Cell). Some (ends from e.to)) (sym c.cell-end.ensures) in
     let order = found_in_order bs (is_ruled bs curve.ruled) _ _ _ found in
-    let made : c.match-end.result ≡ ends from to =
-    elim c.match-end.branch [
-      | in-Closed w ↦ w.result-is ∙ w.between.ensures ∙ between_in_order from w.in-Closed.top (subst (AtMost from) w.in-Closed.is order) ∙ ap (ends from) (sym w.in-Closed.is)
-      | in-Open w ↦ search rules
-    ] in
-    ap Some made ∙ sym found
+    ap Some
+    (c.between.ensures ∙ between_in_order from c.in-Closed.top (subst (AtMost from) c.in-Closed.is order) ∙ ap (ends from) (sym c.in-Closed.is))
+    ∙ sym found

@@ -1,11 +1,13 @@
--- `last_admitting`: the chain gives the numbers from the first on whose cells admit the code.
-use Rattle.std.proofs.Common.{◌≡◌, ℕ, ◌-◌, ◌∙◌, None, ap, get_or, rules, subst, sym, tests, unwrap_or, arith}
-use Rattle.std.specs.List.{filter, last_or, range_with_len}
+-- `last_admitting`: the fold ends with the last of the numbers from the first on whose cells admit the code.
+use Rattle.std.proofs.Common.{◌≡◌, ℕ, ◌-◌, ◌∙◌, ap, cond, get_or, rules, subst, sym, tests, arith}
+use Rattle.std.specs.List.{filter, fold, range_with_len}
 use Rattle.std.proofs.lemmas.Iterator.{YieldsList-from_range}
-use Rattle.std.proofs.lemmas.Iterator.Consumers.{YieldsList-at, YieldsList-from_filter}
+use Rattle.std.proofs.lemmas.Iterator.Consumers.{fold_from_yields_List}
+use Rattle.std.proofs.lemmas.List.{map-id}
 use Rattle.leaf.specs.Cells.{admits, cells, tail}
+use Rattle.leaf.specs.Lasts.{last_of}
 use Rattle.leaf.specs.Searches.{LastAdmitting}
-use Rattle.leaf.proofs.Lasts.{last_given, last_yielded}
+use Rattle.leaf.proofs.Lasts.{last_taken}
 use Rattle.leaf.proofs.Searches.{at_any, last_tried}
 use Rattle.leaf.proofs.curve.Curve.last_admitting.Goals as goal
 
@@ -16,10 +18,12 @@ returns c =
     let v = c.args.code in
     let first = c.args.first in
     let k = c.cell_count.result - first in
+    let numbers = range_with_len first k in
     let tried = λ (i : ℕ). admits v (get_or cs i (tail bs)) in
-    let given : c.last.result ≡ last_or None (filter tried (range_with_len first k)) =
-    last_yielded c.last.result c.last.ensures.ran
-    (YieldsList-from_filter _ tried (YieldsList-at c.filter.ensures.source (YieldsList-from_range first c.cell_count.result k (cc) (omega arith))) c.filter.ensures.closure (λ i b f called. search (rules, tests))) in
-    let found = c.unwrap_or.ensures ∙ ap (λ o. unwrap_or o first) given ∙ last_given first (filter tried (range_with_len first k)) in
+    let folded : c.fold.result ≡ fold (λ last i. cond (tried i) i last) first numbers =
+    fold_from_yields_List _ (λ last i. cond (tried i) i last) first c.fold.result c.fold.ensures.ran
+    (YieldsList-from_range first c.cell_count.result k (cc) (omega arith))
+    (λ last i b f called. search (rules, tests)) in
+    let found = folded ∙ last_taken tried (λ i. i) first numbers ∙ ap (last_of first) (map-id (filter tried numbers)) in
     let last = last_tried v cs (tail bs) k first first (omega arith) c.requires in
     subst (LastAdmitting v cs first) (sym found) (last.0, λ e. at_any cs first _ e (tail bs) v c.requires last.0 last.1)
