@@ -1,7 +1,8 @@
 -- The digits of a path's number are the places that were put in front, one after the other.
-use Rattle.std.proofs.Common.{◌≡◌, ℕ, zero, suc, ◌+◌, ◌*◌, ◌/◌, ◌^◌, ◌<◌, ◌≤◌, min, ltb, List, [], ◌∷◌, length, sym, refl, ap, ◌∙◌, ⊎_elim, le_trans, mul-le-mul_right, pow-suc, arith, lit<}
+use Rattle.std.proofs.Common.{◌≡◌, ℕ, zero, suc, ◌+◌, ◌*◌, ◌/◌, ◌^◌, ◌<◌, ◌≤◌, min, ltb, List, [], ◌∷◌, length, sym, refl, ap, ◌∙◌, ⊎_elim, le_trans, mul-le-mul_right, pow-suc, two-mul, arith, lit<}
 use native.Mathlib.Nat.{pow-le-pow_right}
 use Rattle.std.specs.List.{AllByRecursion}
+use Rattle.std.proofs.lemmas.Nat.{mul-pow, pow-add}
 use Rattle.std.proofs.lemmas.Bool.{cases_lt, le-leb, lt-leb, lt-ltb, le-ltb, cond-true, cond-false}
 use Rattle.gauge.specs.declared.path.Place.{Place}
 use Rattle.gauge.specs.declared.path.Place.TheVariants.{First, Second, Third}
@@ -25,22 +26,17 @@ counted m n reached short (suc k) =
     (cases_lt k m)
 
 -- a power of four is one of two
-four : (j : ℕ) → 4 ^ j ≡ 2 ^ (2 * j)
-four zero = refl
-four (suc j) =
-    let double : 2 * suc j ≡ suc (suc (2 * j)) = omega arith in
-    let two : 2 ^ (2 * suc j) ≡ 2 ^ (2 * j) * 2 * 2 =
-    ap (λ k. 2 ^ k) double ∙ pow-suc 2 (suc (2 * j)) ∙ ap (λ n. n * 2) (pow-suc 2 (2 * j)) in
-    omega (arith, pow-suc 4 j, two, four j)
+power_of_four : (j : ℕ) → 4 ^ j ≡ 2 ^ (2 * j)
+power_of_four j = mul-pow 2 2 j ∙ sym (pow-add 2 j j) ∙ ap (λ k. 2 ^ k) (sym (two-mul j))
 
 -- a number whose highest bit is the r-th has a digit for each two bits, up to fifteen
 pub digits_of_bits : (r n : ℕ) → 2 ^ r ≤ n → n < 2 * 2 ^ r → min (r / 2 + 1) most_digits ≡ digits n
 digits_of_bits r n reached short =
     let m = r / 2 + 1 in
     let fewer : (j : ℕ) → j < m → 4 ^ j ≤ n =
-    λ j lt. let below : 2 ^ (2 * j) ≤ 2 ^ r = pow-le-pow_right (lit< tt) (omega arith) in omega (arith, four j, below) in
+    λ j lt. let below : 2 ^ (2 * j) ≤ 2 ^ r = pow-le-pow_right (lit< tt) (omega arith) in omega (arith, power_of_four j, below) in
     let above : 2 ^ suc r ≤ 2 ^ (2 * m) = pow-le-pow_right (lit< tt) (omega arith) in
-    omega (arith, counted m n fewer (omega (arith, four m, above, pow-suc 2 r)) most_digits)
+    omega (arith, counted m n fewer (omega (arith, power_of_four m, above, pow-suc 2 r)) most_digits)
 
 -- a number that reaches the first k powers has so many digits
 reached_all : (n k : ℕ) → ((j : ℕ) → j < k → 4 ^ j ≤ n) → digits_below k n ≡ k

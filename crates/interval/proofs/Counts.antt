@@ -1,7 +1,8 @@
 -- Counts of what passes a test: one element more, a weaker test, and images of elements.
 use Rattle.std.proofs.Common.{◌≡◌, ℕ, ◌+◌, ◌≤◌, Bool, true, false, cond, List, [], ◌∷◌, count_by, map, refl, sym, ap, ◌∙◌, arith}
-use Rattle.std.specs.List.{AllByRecursion}
-use Rattle.std.proofs.lemmas.List.Sums.{sum_by-cons}
+use mathlib.Core.List.{map-map}
+use Rattle.std.specs.List.{AllByRecursion, sum}
+use Rattle.std.proofs.lemmas.List.Sums.{sum-map, sum_by-cons}
 
 -- one element in front
 pub count_cons : {X : Type 0} (p : X → Bool) (x : X) (xs : List X) → count_by p (x ∷ xs) ≡ cond (p x) 1 0 + count_by p xs
@@ -24,8 +25,6 @@ counts_no_fewer p r (x ∷ xs) (here, rest) =
 
 -- the images that pass are as many as the elements whose images do
 pub count_mapped : {X Y : Type 0} (g : X → Y) (p : Y → Bool) (xs : List X) → count_by p (map g xs) ≡ count_by (λ x. p (g x)) xs
-count_mapped g p [] = refl
-count_mapped g p (x ∷ xs) =
-    count_cons p (g x) (map g xs)
-    ∙ ap (λ n. cond (p (g x)) 1 0 + n) (count_mapped g p xs)
-    ∙ sym (count_cons (λ y. p (g y)) x xs)
+count_mapped g p xs =
+    let one = λ (b : Bool). cond {A = ℕ} b 1 0 in
+    sym (sum-map (λ y. one (p y)) (map g xs)) ∙ ap sum (map-map (λ y. one (p y)) g xs) ∙ sum-map (λ x. one (p (g x))) xs

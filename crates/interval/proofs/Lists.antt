@@ -1,4 +1,4 @@
--- The least and the greatest of a list of numbers, a map after a map, and what holds of each element that a filter or a map gives.
+-- The least and the greatest of a list of numbers, a filter after a map, and what holds of each element that a filter or a map gives.
 use Rattle.std.proofs.Common.{◌≡◌, ℕ, ◌≤◌, min, max, Bool, true, List, [], ◌∷◌, map, Some, None, Option, unwrap_or, sym, refl, ap, ◌∙◌, subst, le_refl, arith}
 use Rattle.std.specs.List.{AllByRecursion, cons_option, filter, filter_map, fold, reduce}
 use Rattle.std.proofs.lemmas.Bool.{cond_both, false≢true}
@@ -36,11 +36,7 @@ least_given (y ∷ ys) = let same : min y y ≡ y = omega arith in from (min y y
     from b [] = refl
     from b (y ∷ ys) = from (min b y) ys
 
--- a map, or a filter that maps, of a map is one of the list itself
-pub map_mapped : {X Y Z : Type 0} (g : X → Y) (f : Y → Z) (xs : List X) → map f (map g xs) ≡ map (λ x. f (g x)) xs
-map_mapped g f [] = refl
-map_mapped g f (x ∷ xs) = ap (λ ys. f (g x) ∷ ys) (map_mapped g f xs)
-
+-- a filter that maps, of a map, is one of the list itself
 pub filter_map_mapped : {X Y Z : Type 0} (g : X → Y) (h : Y → Option Z) (xs : List X) → filter_map h (map g xs) ≡ filter_map (λ x. h (g x)) xs
 filter_map_mapped g h [] = refl
 filter_map_mapped g h (x ∷ xs) = ap (cons_option (h (g x))) (filter_map_mapped g h xs)

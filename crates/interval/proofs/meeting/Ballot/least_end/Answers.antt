@@ -1,5 +1,6 @@
 -- `least_end`: what the chain finds is the least of the quorate lower ends, and that is the least point.
 use Rattle.std.proofs.Common.{◌≡◌, ◌∙◌, ap, min, map, rules, tests, subst, sym, None, Some, unwrap_or}
+use mathlib.Core.List.{map-map}
 use Rattle.std.proofs.lemmas.Iterator.{YieldsList-from_map, YieldsList-from_slice}
 use Rattle.std.proofs.lemmas.Iterator.Consumers.{YieldsList-at, YieldsList-from_filter, fold_from_yields_List}
 use Rattle.std.specs.List.{filter, fold, reduce}
@@ -7,7 +8,7 @@ use Rattle.interval.specs.declared.interval.Interval.{Interval}
 use Rattle.interval.specs.Meetings.{quorate, spans}
 use Rattle.interval.specs.Spans.{Span, span}
 use Rattle.interval.proofs.Ends.{LeastOf, least_end, least_of}
-use Rattle.interval.proofs.Lists.{least_given, map_mapped}
+use Rattle.interval.proofs.Lists.{least_given}
 use Rattle.interval.proofs.meeting.Ballot.least_end.Goals as goal
 
 pub returns : goal.returns
@@ -15,7 +16,7 @@ returns c =
     let is = c.args.self.now.intervals.now in
     let ss = spans is in
     let q = c.args.self.now.quorum in
-    let given : map (λ (i : Interval). i.lower) is ≡ map (λ (s : Span). s.lower) ss = sym (map_mapped span (λ (s : Span). s.lower) is) in
+    let given : map (λ (i : Interval). i.lower) is ≡ map (λ (s : Span). s.lower) ss = sym (map-map (λ (s : Span). s.lower) span is) in
     let found : c.fold.result ≡ fold (λ least end. Some (min (unwrap_or least end) end)) None (filter (quorate ss q) (map (λ (i : Interval). i.lower) is)) =
     fold_from_yields_List {s = c.filter.result} _ (λ least end. Some (min (unwrap_or least end) end)) None c.fold.result c.fold.ensures.ran
     (YieldsList-from_filter _ (quorate ss q)
