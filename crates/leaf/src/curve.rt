@@ -101,39 +101,37 @@ impl Curve {
         self.breakpoints.len().max(1)
     }
 
-    // Cell number `i`; the tail is the last, and stands for all past it. Read by number: with a slice pattern on the breakpoints
-    // from `i` on a measurement takes a third to a half more time.
+    // Cell number `i`; the tail is the last, and stands for all past it.
     #[tactic(auto, using(crate::proofs::Cells::cell_at, crate::proofs::Cells::tail_from))]
     fn cell(&self, i: usize) -> Cell
         ensures { result ≡ slice_index_or (cells self.now.breakpoints.items) i (tail self.now.breakpoints.items) }
     {
         let points = self.breakpoints.as_slice();
         if i < points.len().saturating_sub(1) {
-            let start = points[i];
-            let end = points[i + 1];
-            Cell {
-                from: start.time,
-                to: Top::Closed(end.time),
-                lowest: end.lowest,
-                highest: start.highest,
-            }
+            Cell::between(points[i], points[i + 1])
         } else {
             self.tail()
         }
     }
 
     // The first cell that admits the code, found by a `loop` that breaks with its number: the project fixes this form
-    // (docs/DECISIONS.md). Cells are tried one by one: their codes overlap, so they are in no order to look a code up by.
+    // (docs/DECISIONS.md). Cells are tried one by one: their codes overlap, so they are in no order to look a code up by. The
+    // tail is tried apart, for speed: `cell` would ask again of each whether it is the tail. So also in `last_admitting`.
+    #[tactic(auto, using(crate::proofs::Cells::cell_at))]
     fn first_admitting(&self, code: u16) -> Option<usize>
         ensures { FirstAdmitting code (cells self.now.breakpoints.items) result }
     {
-        let count = self.cell_count();
+        let points = self.breakpoints.as_slice();
+        let closed = self.cell_count() - 1;
         let mut at = 0;
         let first = loop {
-            if at >= count {
+            if at >= closed {
+                if self.tail().admits(code) {
+                    break at;
+                }
                 return None;
             }
-            if self.cell(at).admits(code) {
+            if Cell::between(points[at], points[at + 1]).admits(code) {
                 break at;
             }
             at += 1;
@@ -146,9 +144,14 @@ impl Curve {
         requires { first < length (cells self.now.breakpoints.items) }
         ensures { LastAdmitting code (cells self.now.breakpoints.items) first result }
     {
-        (first..self.cell_count()).fold(first, |last, i| {
-            if self.cell(i).admits(code) { i } else { last }
-        })
+        let closed = self.cell_count() - 1;
+        if self.tail().admits(code) {
+            return closed;
+        }
+        let points = self.breakpoints.as_slice();
+        (first..closed)
+            .filter(|&i| Cell::between(points[i], points[i + 1]).admits(code))
+            .fold(first, |_, i| i)
     }
 
     // From the start of the first cell that admits the code to the end of the last, or none where none does.
